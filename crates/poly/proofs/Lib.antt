@@ -1,0 +1,4 @@
+pub mod Sum
+pub mod Product
+pub mod Remainder
+pub mod Coprime
