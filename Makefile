@@ -2,6 +2,7 @@
 .PHONY: test run tools listed
 
 test: tools listed
+	@tests/run-vectors
 	@rt ci
 
 run: tools

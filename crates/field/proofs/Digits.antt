@@ -16,14 +16,6 @@ unfoldable pub digitsProduct : ℕ → ℕ → ℕ → ℕ → ℕ → ℕ
 digitsProduct m g zero a b = 0
 digitsProduct m g (suc k) a b = add (scale (b % 2) a) (digitsProduct m g k (mul m g α a) (b / 2))
 
-pub scale-set : (c a : ℕ) → c ≡ 1 → a ≡ scale c a
-unfolding scale
-scale-set c a e = sym (ap (λ (t : ℕ). scale t a) e)
-
-pub scale-unset : (c a : ℕ) → c ≡ 0 → 0 ≡ scale c a
-unfolding scale
-scale-unset c a e = sym (ap (λ (t : ℕ). scale t a) e)
-
 -- the last digit
 pub last : (m g p q r : ℕ) → r ≡ scale (q % 2) p → r ≡ digitsProduct m g 1 p q
 unfolding digitsProduct

@@ -119,7 +119,7 @@ module _ (d g : ℕ) where
           )
 
   module _ (deg : Degree d g) where
-    reduced-lt : (w : ℕ) → w < 2 ^ suc d → reduced d g w < 2 ^ d
+    pub reduced-lt : (w : ℕ) → w < 2 ^ suc d → reduced d g w < 2 ^ d
     reduced-lt w h = by-digit (w / 2 ^ d) refl (lib.Pow.shr-lt 1 d (subst (λ (t : ℕ). w < 2 ^ t) (sym (native.Mathlib.Numerals.one-add d)) h))
       where
         by-digit : (c : ℕ) → w / 2 ^ d ≡ c → c < 2 → reduced d g w < 2 ^ d

@@ -146,6 +146,14 @@ unfolding scale
 scale-lt k zero a h = lib.Pow.pow-pos k
 scale-lt k (suc c) a h = h
 
+pub scale-set : (c a : ℕ) → c ≡ 1 → a ≡ scale c a
+unfolding scale
+scale-set c a e = sym (ap (λ (t : ℕ). scale t a) e)
+
+pub scale-unset : (c a : ℕ) → c ≡ 0 → 0 ≡ scale c a
+unfolding scale
+scale-unset c a e = sym (ap (λ (t : ℕ). scale t a) e)
+
 pub scale-zero : (c : ℕ) → scale c 0 ≡ 0
 unfolding scale
 scale-zero zero = refl

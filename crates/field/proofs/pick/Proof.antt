@@ -1,6 +1,6 @@
 -- `field::pick` meets its contract: the digit is 1 or 0. Assumes nothing.
 use native.Mathlib.Omega.{arith}
-use Rattle.field.proofs.Digits.{scale-set, scale-unset}
+use Rattle.poly.proofs.Sum.{scale-set, scale-unset}
 use Rattle.field.proofs.pick.Statement.{statement}
 use Rattle.field.proofs.pick.Tie as tie
 

@@ -1,0 +1,11 @@
+pub mod Levels
+pub mod Division
+pub mod Cascade
+pub mod Begins
+pub mod Parity
+pub mod Checks
+pub mod MaskTable
+pub mod Supercodes
+pub mod Short
+pub mod ShortMasks
+pub mod FactorRoots

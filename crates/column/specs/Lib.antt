@@ -1,0 +1,5 @@
+pub mod Shape
+pub mod Level
+pub mod Trellis
+pub mod Mask
+pub mod Roots

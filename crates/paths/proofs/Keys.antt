@@ -1,0 +1,172 @@
+-- The search on keys is the search on paths. Assumes nothing.
+use mathlib.Core.Bool.{Bool, true, false, cond, _&&_}
+use mathlib.Core.List.{List, [], _∷_, map}
+use mathlib.Core.Logic.{_⊎_, inl, inr}
+use mathlib.Core.Path.{_≡_, refl, sym, ap, _∙_, subst⁻¹}
+use Prim.Native.Nat.{ℕ, zero, suc, _+_, _≤_, _<_}
+use native.Mathlib.Omega.{arith}
+use native.Mathlib.Nat.{zero-add, suc-add}
+use lib.Dec.{eqb}
+use borrow.Author.Tests.{eqb-true, eqb-false}
+use lib.ListN.{length}
+use Rattle.paths.specs.Lists.{Mem}
+use Rattle.paths.specs.Paths.{Path}
+use Rattle.paths.specs.Stack.{Nodes, Sorted, insert, push, extend, grow}
+use Rattle.paths.specs.Tree.{Tree, is-full, nodes, Exists, Sound}
+use Rattle.paths.specs.Search.{count, answer, spent, start, take-head, step, steps, after, run}
+use Rattle.paths.specs.Keys.{run-keys, stack-after, KeysOf, with-key}
+use Rattle.paths.proofs.Booleans.{is-false}
+use Rattle.paths.proofs.Stack.{grow-length}
+use Rattle.paths.proofs.Invariant.{Invariant, step-invariant, start-invariant, after-invariant}
+use Rattle.paths.proofs.Run.{answer-is-not-spent}
+
+-- ---- on keys alone
+
+module _ {A : Type 0} (N : Nodes A) where
+  pub stack-after-length : (k : ℕ) (stack : List A) → length (stack-after N k stack) ≤ length stack + k
+  unfolding stack-after
+  stack-after-length zero stack = omega arith
+  stack-after-length (suc k) [] = omega arith
+  stack-after-length (suc k) (x ∷ rest) = omega (arith, stack-after-length k (grow N x rest), grow-length N x rest)
+
+  no-keys-left : (accept : A → Bool) (fuel c : ℕ) → run-keys N accept fuel c [] ≡ spent c
+  unfolding run-keys
+  no-keys-left accept zero c = refl
+  no-keys-left accept (suc fuel) c = refl
+
+  -- a run of a + b is the run of b from where a spent run of a stopped
+  pub spent-keys-go-on : (accept : A → Bool) (a b c d : ℕ) (stack : List A) → run-keys N accept a c stack ≡ spent d
+      → run-keys N accept (a + b) c stack ≡ run-keys N accept b d (stack-after N a stack)
+  unfolding run-keys stack-after
+  spent-keys-go-on accept zero b c d stack e =
+      let same : c ≡ d = cc e in
+      ap (λ (k : ℕ). run-keys N accept k c stack) (zero-add b) ∙ ap (λ (k : ℕ). run-keys N accept b k stack) same
+  spent-keys-go-on accept (suc a) b c d [] e = no-keys-left accept (suc a + b) c ∙ e ∙ sym (no-keys-left accept b d)
+  spent-keys-go-on accept (suc a) b c d (x ∷ rest) e =
+      ap (λ (k : ℕ). run-keys N accept k c (x ∷ rest)) (suc-add a b) ∙ go (N .full x && accept x) e (spent-keys-go-on accept a b (suc c) d (grow N x rest))
+    where
+      go : (t : Bool) → cond t (answer x (suc c)) (run-keys N accept a (suc c) (grow N x rest)) ≡ spent d
+          → (run-keys N accept a (suc c) (grow N x rest) ≡ spent d → run-keys N accept (a + b) (suc c) (grow N x rest) ≡ run-keys N accept b d (stack-after N a (grow N x rest)))
+          → cond t (answer x (suc c)) (run-keys N accept (a + b) (suc c) (grow N x rest)) ≡ run-keys N accept b d (stack-after N a (grow N x rest))
+      go true k ih = answer-is-not-spent x (suc c) d k
+      go false k ih = ih k
+
+-- ---- keys and paths
+
+cond-map : {A B : Type 0} (f : A → B) (b : Bool) (x y : List A) → map f (cond b x y) ≡ cond b (map f x) (map f y)
+cond-map f true x y = refl
+cond-map f false x y = refl
+
+module _ (t : Tree) {A : Type 0} (N : Nodes A) (key : Path → A) (keys : KeysOf t N key) where
+  insert-keys : (p : Path) (stack : List Path) → map key (insert (nodes t) p stack) ≡ insert N (key p) (map key stack)
+  unfolding insert
+  insert-keys p [] = refl
+  insert-keys p (q ∷ stack) =
+      cond-map key (t .before q p) (q ∷ insert (nodes t) p stack) (p ∷ q ∷ stack)
+      ∙ ap (λ (l : List A). cond (t .before q p) (key q ∷ l) (key p ∷ key q ∷ map key stack)) (insert-keys p stack)
+      ∙ ap (λ (b : Bool). cond b (key q ∷ insert N (key p) (map key stack)) (key p ∷ key q ∷ map key stack)) (sym (keys .same-order q p))
+
+  push-keys : (p : Path) (stack : List Path) → N .exists (key p) ≡ t .exists p → map key (push (nodes t) p stack) ≡ push N (key p) (map key stack)
+  unfolding push
+  push-keys p stack e =
+      cond-map key (t .exists p) (insert (nodes t) p stack) stack
+      ∙ ap (λ (l : List A). cond (t .exists p) l (map key stack)) (insert-keys p stack)
+      ∙ ap (λ (b : Bool). cond b (insert N (key p) (map key stack)) (map key stack)) (sym e)
+
+  extend-keys : (p : Path) (stack : List Path) → (p ≡ []) ⊎ Exists t p → length p < t .size → map key (extend (nodes t) p stack) ≡ extend N (key p) (map key stack)
+  unfolding extend
+  extend-keys p stack x l =
+      push-keys (true ∷ p) (push (nodes t) (false ∷ p) stack) (keys .same-exists true p x l)
+      ∙ ap (push N (key (true ∷ p))) (push-keys (false ∷ p) stack (keys .same-exists false p x l))
+      ∙ ap (λ (y : A). push N y (push N (key (false ∷ p)) (map key stack))) (sym (keys .same-extension true p))
+      ∙ ap (λ (y : A). push N (N .extension true (key p)) (push N y (map key stack))) (sym (keys .same-extension false p))
+
+  of-keys : (y : A) (stack : List Path) → Mem y (map key stack) → (q : Path) × (y ≡ key q) × Mem q stack
+  of-keys y (q ∷ stack) (inl e) = (q, e, inl refl)
+  of-keys y (q ∷ stack) (inr m) = let r = of-keys y stack m in (r .0, r .1, inr (r .2))
+
+  keys-sorted : (stack : List Path) → Sorted (t .before) stack → Sorted (N .before) (map key stack)
+  keys-sorted [] s = tt
+  keys-sorted (p ∷ stack) s = (
+    λ y m. let r = of-keys y stack m in subst⁻¹ (λ (x : A). N .before (key p) x ≡ true) (r .1) (keys .same-order p (r .0) ∙ s .0 (r .0) (r .2)),
+    keys-sorted stack (s .1),
+  )
+
+  module _ (sound : Sound t) where
+    grow-keys : (p : Path) (rest : List Path) → Exists t p → map key (grow (nodes t) p rest) ≡ grow N (key p) (map key rest)
+    unfolding grow is-full
+    grow-keys p rest x = go (eqb (length p) (t .size)) refl ∙ ap (λ (b : Bool). cond b (map key rest) (extend N (key p) (map key rest))) (sym (keys .same-full p))
+      where
+        go : (b : Bool) → eqb (length p) (t .size) ≡ b → map key (cond b rest (extend (nodes t) p rest)) ≡ cond b (map key rest) (extend N (key p) (map key rest))
+        go true e = refl
+        go false e = extend-keys p rest (inr x) (omega (arith, eqb-false (length p) (t .size) e, sound .short p (x .in-tree)))
+
+    some-size : 0 < t .size
+    some-size = omega (arith, sound .some-full .1 .long, sound .some-full .1 .there .some-bit)
+
+    -- an empty stack spends the fuel
+    run-on-empty : (accept : Path → Bool) (fuel : ℕ) (taken : List Path) → run t accept fuel (record { taken = taken; stack = [] }) ≡ spent (length taken)
+    unfolding run step take-head is-full
+    run-on-empty accept zero taken = refl
+    run-on-empty accept (suc fuel) taken =
+        ap (λ (b : Bool). cond (b && accept []) (answer [] (length taken)) (run t accept fuel (record { taken = taken; stack = [] }))) (is-false (eqb 0 (t .size)) not-full)
+        ∙ run-on-empty accept fuel taken
+      where
+        not-full : eqb 0 (t .size) ≡ true → ⊥
+        not-full e = omega (arith, eqb-true 0 (t .size) e, some-size)
+
+    -- a run on keys has the outcome of the run on paths
+    run-keys-from : (accept : A → Bool) (fuel : ℕ) (taken stack : List Path) → Invariant t taken stack
+        → run-keys N accept fuel (length taken) (map key stack) ≡ with-key key (run t (λ p. accept (key p)) fuel (record { taken = taken; stack = stack }))
+    unfolding run-keys run step take-head with-key
+    run-keys-from accept zero taken stack i = refl
+    run-keys-from accept (suc fuel) taken [] i = sym (ap (with-key key) (run-on-empty (λ p. accept (key p)) (suc fuel) taken))
+    run-keys-from accept (suc fuel) taken (p ∷ rest) i =
+        ap (λ (b : Bool). cond (b && accept (key p)) (answer (key p) (suc (length taken))) (run-keys N accept fuel (suc (length taken)) (grow N (key p) (map key rest)))) (keys .same-full p)
+        ∙ ap (λ (l : List A). cond (is-full t p && accept (key p)) (answer (key p) (suc (length taken))) (run-keys N accept fuel (suc (length taken)) l))
+        (sym (grow-keys p rest (i .there p (inr (inl refl)))))
+        ∙ go (is-full t p && accept (key p)) (run-keys-from accept fuel (p ∷ taken) (grow (nodes t) p rest) (step-invariant t sound (record { taken = taken; stack = p ∷ rest }) i))
+      where
+        go : (b : Bool)
+            → run-keys N accept fuel (suc (length taken)) (map key (grow (nodes t) p rest))
+            ≡ with-key key (run t (λ p. accept (key p)) fuel (record { taken = p ∷ taken; stack = grow (nodes t) p rest }))
+            → cond b (answer (key p) (suc (length taken))) (run-keys N accept fuel (suc (length taken)) (map key (grow (nodes t) p rest)))
+            ≡ with-key key (cond b (answer p (suc (length taken))) (run t (λ p. accept (key p)) fuel (record { taken = p ∷ taken; stack = grow (nodes t) p rest })))
+        go true ih = refl
+        go false ih = ih
+
+    stack-after-from : (k : ℕ) (taken stack : List Path) → Invariant t taken stack → map key (steps t k (record { taken = taken; stack = stack }) .stack) ≡ stack-after N k (map key stack)
+    unfolding stack-after steps step take-head
+    stack-after-from zero taken stack i = refl
+    stack-after-from (suc k) taken [] i = stack-after-from k taken [] i ∙ none k
+      where
+        none : (k : ℕ) → stack-after N k [] ≡ []
+        none zero = refl
+        none (suc k) = refl
+    stack-after-from (suc k) taken (p ∷ rest) i =
+        stack-after-from k (p ∷ taken) (grow (nodes t) p rest) (step-invariant t sound (record { taken = taken; stack = p ∷ rest }) i)
+        ∙ ap (stack-after N k) (grow-keys p rest (i .there p (inr (inl refl))))
+
+    start-keys : map key (start t .stack) ≡ extend N (key []) []
+    unfolding start
+    start-keys = extend-keys [] [] (inl refl) some-size
+
+    -- from the state after k steps
+    pub run-on-keys-is-run-on-paths : (accept : A → Bool) (fuel k : ℕ)
+        → run-keys N accept fuel (count (after t k)) (map key (after t k .stack)) ≡ with-key key (run t (λ p. accept (key p)) fuel (after t k))
+    run-on-keys-is-run-on-paths accept fuel k = run-keys-from accept fuel (after t k .taken) (after t k .stack) (after-invariant t sound k)
+
+    pub stack-of-keys-is-stack-of-paths : (k : ℕ) → stack-after N k (extend N (key []) []) ≡ map key (after t k .stack)
+    unfolding after
+    stack-of-keys-is-stack-of-paths k = ap (stack-after N k) (sym start-keys) ∙ sym (stack-after-from k (start t .taken) (start t .stack) (start-invariant t sound))
+
+    pub stack-of-keys-is-in-order : (k : ℕ) → Sorted (N .before) (stack-after N k (extend N (key []) []))
+    stack-of-keys-is-in-order k =
+        subst⁻¹ (λ (l : List A). Sorted (N .before) l) (stack-of-keys-is-stack-of-paths k) (keys-sorted (after t k .stack) (after-invariant t sound k .sorted))
+
+    -- from the start
+    pub search-on-keys-is-search-on-paths : (accept : A → Bool) (limit : ℕ)
+        → run-keys N accept limit 0 (extend N (key []) []) ≡ with-key key (run t (λ p. accept (key p)) limit (start t))
+    unfolding start
+    search-on-keys-is-search-on-paths accept limit =
+        ap (run-keys N accept limit 0) (sym start-keys) ∙ run-keys-from accept limit (start t .taken) (start t .stack) (start-invariant t sound)

@@ -1,0 +1,38 @@
+-- The same search on keys that stand for paths. It counts the paths taken in place of keeping them. Assumes nothing.
+use mathlib.Core.Bool.{Bool, cond, _&&_}
+use mathlib.Core.List.{List, [], _∷_}
+use mathlib.Core.Logic.{_⊎_}
+use mathlib.Core.Path.{_≡_}
+use Prim.Native.Nat.{ℕ, zero, suc, _<_}
+use lib.ListN.{length}
+use Rattle.paths.specs.Paths.{Path}
+use Rattle.paths.specs.Stack.{Nodes, grow}
+use Rattle.paths.specs.Tree.{Tree, is-full, Exists}
+use Rattle.paths.specs.Search.{Outcome, answer, spent}
+
+module _ {A : Type 0} (nodes : Nodes A) where
+  -- as `run`, from a stack of keys, when count-many were taken
+  unfoldable pub run-keys : (A → Bool) → ℕ → ℕ → List A → Outcome A
+  run-keys accept zero count stack = spent count
+  run-keys accept (suc fuel) count [] = spent count
+  run-keys accept (suc fuel) count (x ∷ rest) =
+      let goes-on = run-keys accept fuel (suc count) (grow nodes x rest) in
+      cond (nodes .full x && accept x) (answer x (suc count)) goes-on
+
+  -- the stack after k more steps
+  unfoldable pub stack-after : ℕ → List A → List A
+  stack-after zero stack = stack
+  stack-after (suc k) [] = []
+  stack-after (suc k) (x ∷ rest) = stack-after k (grow nodes x rest)
+
+-- the keys behave as the tree's paths; existence is asked of a key only where the parent exists, and is not full
+pub record KeysOf (t : Tree) {A : Type 0} (nodes : Nodes A) (key : Path → A) : Type 0 where
+  pub same-extension : (b : Bool) (p : Path) → nodes .extension b (key p) ≡ key (b ∷ p)
+  pub same-order : (p q : Path) → nodes .before (key p) (key q) ≡ t .before p q
+  pub same-full : (p : Path) → nodes .full (key p) ≡ is-full t p
+  pub same-exists : (b : Bool) (p : Path) → (p ≡ []) ⊎ Exists t p → length p < t .size → nodes .exists (key (b ∷ p)) ≡ t .exists (b ∷ p)
+
+-- the outcome with the word's key
+unfoldable pub with-key : {A : Type 0} → (Path → A) → Outcome Path → Outcome A
+with-key key (answer w c) = answer (key w) c
+with-key key (spent c) = spent c

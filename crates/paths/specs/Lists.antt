@@ -1,0 +1,20 @@
+-- Members, repeats and tests of a list. Assumes nothing.
+use mathlib.Core.Bool.{Bool, cond}
+use mathlib.Core.List.{List, [], _∷_}
+use mathlib.Core.Logic.{_⊎_}
+use mathlib.Core.Path.{_≡_}
+
+-- x stands in the list
+abbrev pub Mem : {A : Type 0} → A → List A → Type 0
+Mem x [] = ⊥
+Mem x (y ∷ ys) = (x ≡ y) ⊎ Mem x ys
+
+-- nothing stands in the list twice
+abbrev pub NoRepeats : {A : Type 0} → List A → Type 0
+NoRepeats [] = Unit {0}
+NoRepeats (x ∷ xs) = (Mem x xs → ⊥) × NoRepeats xs
+
+-- those that pass the test
+unfoldable pub filter : {A : Type 0} → (A → Bool) → List A → List A
+filter test [] = []
+filter test (x ∷ xs) = cond (test x) (x ∷ filter test xs) (filter test xs)

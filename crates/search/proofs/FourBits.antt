@@ -1,0 +1,63 @@
+-- Source document 001's code of four bits and its two trellises. Assumes nothing.
+use mathlib.Core.Bool.{Bool, false, _&&_, _||_}
+use mathlib.Core.List.{List, [], _∷_}
+use mathlib.Core.Path.{_≡_, refl}
+use Prim.Native.Nat.{ℕ, _-_, _/_, _^_}
+use lib.Count.{ones}
+use lib.Dec.{eqb, leb}
+use lib.ListN.{length}
+use Rattle.column.specs.Mask.{parity}
+use Rattle.paths.specs.Lists.{filter}
+use Rattle.paths.specs.Paths.{Path}
+use Rattle.paths.specs.Tree.{Tree}
+use Rattle.search.specs.Values.{Values}
+use Rattle.search.specs.Order.{number, before}
+
+-- the rows 1101 and 0111
+abbrev pub topRow : ℕ
+topRow = 13
+
+abbrev pub lowRow : ℕ
+lowRow = 7
+
+-- the word has an even number of ones under the row
+abbrev pub fits : ℕ → ℕ → Bool
+fits row w = eqb (parity row w) 0
+
+abbrev pub fourBitWords : List ℕ
+fourBitWords = 0 ∷ 1 ∷ 2 ∷ 3 ∷ 4 ∷ 5 ∷ 6 ∷ 7 ∷ 8 ∷ 9 ∷ 10 ∷ 11 ∷ 12 ∷ 13 ∷ 14 ∷ 15 ∷ []
+
+-- 0000 0101 1011 1110
+abbrev pub wholeWords : List ℕ
+wholeWords = 0 ∷ 5 ∷ 11 ∷ 14 ∷ []
+
+-- 0000 0010 0101 0111 1001 1011 1100 1110
+abbrev pub topWords : List ℕ
+topWords = 0 ∷ 2 ∷ 5 ∷ 7 ∷ 9 ∷ 11 ∷ 12 ∷ 14 ∷ []
+
+-- 0000 0011 0101 0110 1000 1011 1101 1110
+abbrev pub lowWords : List ℕ
+lowWords = 0 ∷ 3 ∷ 5 ∷ 6 ∷ 8 ∷ 11 ∷ 13 ∷ 14 ∷ []
+
+pub whole-words-fit-both-rows : filter (λ w. fits topRow w && fits lowRow w) fourBitWords ≡ wholeWords
+unfolding filter parity ones
+whole-words-fit-both-rows = refl
+
+pub top-words-fit-the-top-row : filter (fits topRow) fourBitWords ≡ topWords
+unfolding filter parity ones
+top-words-fit-the-top-row = refl
+
+pub low-words-fit-the-low-row : filter (fits lowRow) fourBitWords ≡ lowWords
+unfolding filter parity ones
+low-words-fit-the-low-row = refl
+
+-- a path of at most four bits begins some word of the list
+unfoldable pub beginsSome : List ℕ → Path → Bool
+beginsSome [] p = false
+beginsSome (w ∷ words) p = leb (length p) 4 && eqb (w / 2 ^ (4 - length p)) (number p) || beginsSome words p
+
+abbrev pub fourBitWhole : Values → List ℕ → Tree
+fourBitWhole vs soft = record { size = 4; before = before vs soft; exists = beginsSome wholeWords }
+
+abbrev pub fourBitSupercode : Values → List ℕ → Tree
+fourBitSupercode vs soft = record { size = 4; before = before vs soft; exists = λ p. beginsSome topWords p && beginsSome lowWords p }

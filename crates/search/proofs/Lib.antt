@@ -1,0 +1,10 @@
+pub mod Strict
+pub mod Order
+pub mod Existence
+pub mod Sound
+pub mod Keys
+pub mod Demand
+pub mod Counts
+pub mod Short
+pub mod FourBits
+pub mod Known

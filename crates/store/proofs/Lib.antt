@@ -1,0 +1,2 @@
+pub mod FirstAbove
+pub mod Entries

@@ -1,0 +1,14 @@
+/* The test entries of crates/entries, as an archive made by `rt staticlib entries` has them. */
+#ifndef ENTRIES_H
+#define ENTRIES_H
+#include <stddef.h>
+#include <stdint.h>
+
+/* What a call tells: number 0 if nothing is refused, the place, the value. */
+typedef struct { uint64_t number, place, value; } told;
+
+told entry_encode_column(const uint8_t *symbols, size_t count);
+told entry_level_word(uint64_t level, uint64_t symbol);
+told entry_reimage(uint64_t column, uint64_t level);
+
+#endif
