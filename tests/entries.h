@@ -1,4 +1,4 @@
-/* The test entries of crates/entries, as an archive made by `rt staticlib entries` has them. */
+/* The test entries of crates/entries, as the archive made by `rt staticlib entries` has them. */
 #ifndef ENTRIES_H
 #define ENTRIES_H
 #include <stddef.h>
@@ -7,8 +7,13 @@
 /* What a call tells: number 0 if nothing is refused, the place, the value. */
 typedef struct { uint64_t number, place, value; } told;
 
+/* What a search tells: the word and the count where number is 0. */
+typedef struct { uint64_t number, place, word, count; } found;
+
 told entry_encode_column(const uint8_t *symbols, size_t count);
 told entry_level_word(uint64_t level, uint64_t symbol);
 told entry_reimage(uint64_t column, uint64_t level);
+found entry_search_whole(const uint8_t *soft, size_t count, uint64_t level, uint64_t limit);
+found entry_search_supercode(const uint8_t *soft, size_t count, uint64_t level, uint64_t limit);
 
 #endif

@@ -15,7 +15,7 @@ two-pos : 0 < 2
 two-pos = zero-lt-suc 1
 
 -- the lowest digit of a sum of numbers
-odd-sum : (x y : ℕ) → (x + y) % 2 ≡ add (x % 2) (y % 2)
+pub odd-sum : (x y : ℕ) → (x + y) % 2 ≡ add (x % 2) (y % 2)
 unfolding add
 odd-sum x y = digits (x % 2) (y % 2) refl refl (mod-lt x two-pos) (mod-lt y two-pos)
   where

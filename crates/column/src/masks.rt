@@ -1,5 +1,7 @@
 // The masks of the next-bit test: entry t is the mask of a path's bit t + 1, the bits whose parity has to be even. One table for each code.
-ghost use Prim.Native.Nat.{_<_};
+ghost use Prim.Native.Nat.{ℕ, _<_};
+ghost use mathlib.Core.Path.{_≡_};
+ghost use lib.ListN.{getD};
 ghost use Rattle.column.specs.Shape.{short, levelCode};
 ghost use Rattle.column.specs.Mask.{MasksOf};
 
@@ -287,4 +289,11 @@ pub fn right_masks(level: usize) -> [u64; 30]
         return F5;
     }
     F5_F7
+}
+
+// No masks: every path passes.
+pub fn no_masks() -> [u64; 30]
+    ensures { λ r. ⌜ ((k : ℕ) → k < 30 → getD r k 0 ≡ 0) ⌝ }
+{
+    NONE
 }

@@ -1,8 +1,11 @@
 // Test entries for C, thin over the public calls: what tests/run-vectors calls. Each answers with number, place and value, as store's specs/Answer.antt gives them.
 ghost use mathlib.Core.Path.{_≡_};
 ghost use Rattle.store.specs.Columns.{encodeAnswer, levelWordAnswer, reimageAnswer};
-ghost use Rattle.entries.specs.Told.{toldOf};
+ghost use Rattle.search.specs.Demand.{whole, supercode};
+ghost use Rattle.store.specs.Searches.{searchAnswer};
+ghost use Rattle.entries.specs.Told.{toldOf, foundOf};
 use store::Answer;
+use store::SearchAnswer;
 
 #[repr(C)]
 pub struct Told {
@@ -47,4 +50,45 @@ pub extern "C" fn entry_reimage(column: u64, level: u64) -> Told
     ensures { λ r. ⌜ r ≡ toldOf (reimageAnswer column level) ⌝ }
 {
     numbers_of(store::columns::reimage(column, level))
+}
+
+#[repr(C)]
+pub struct Found {
+    pub number: u64,
+    pub place: u64,
+    pub word: u64,
+    pub count: u64,
+}
+
+fn numbers_of_search(answer: SearchAnswer) -> Found
+    ensures { λ r. ⌜ r ≡ foundOf answer ⌝ }
+{
+    match answer {
+        SearchAnswer::Found(w, c) => Found {
+            number: 0,
+            place: 0,
+            word: w,
+            count: c,
+        },
+        SearchAnswer::Refused(n, p) => Found {
+            number: n,
+            place: p,
+            word: 0,
+            count: 0,
+        },
+    }
+}
+
+#[no_mangle]
+pub extern "C" fn entry_search_whole(soft: &[u8], level: u64, limit: u64) -> Found
+    ensures { λ r. ⌜ r ≡ foundOf (searchAnswer whole (now (soft .entry)) level limit) ⌝ }
+{
+    numbers_of_search(store::searches::search_whole(soft, level, limit))
+}
+
+#[no_mangle]
+pub extern "C" fn entry_search_supercode(soft: &[u8], level: u64, limit: u64) -> Found
+    ensures { λ r. ⌜ r ≡ foundOf (searchAnswer supercode (now (soft .entry)) level limit) ⌝ }
+{
+    numbers_of_search(store::searches::search_supercode(soft, level, limit))
 }

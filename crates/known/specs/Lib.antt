@@ -1,1 +1,2 @@
+pub mod FourBits
 pub mod Known

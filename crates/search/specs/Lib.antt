@@ -3,3 +3,6 @@ pub mod Order
 pub mod Trellis
 pub mod Keys
 pub mod Demand
+pub mod Places
+pub mod Steps
+pub mod Outcomes

@@ -1,3 +1,6 @@
 pub mod Answer
 pub mod Questions
 pub mod Columns
+pub mod Searches
+pub mod Outcome
+pub mod Dumps

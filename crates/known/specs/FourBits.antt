@@ -1,17 +1,15 @@
 -- Source document 001's code of four bits and its two trellises. Assumes nothing.
-use mathlib.Core.Bool.{Bool, false, _&&_, _||_}
+use mathlib.Core.Bool.{Bool, true, false, _&&_, _||_}
 use mathlib.Core.List.{List, [], _∷_}
-use mathlib.Core.Path.{_≡_, refl}
 use Prim.Native.Nat.{ℕ, _-_, _/_, _^_}
-use lib.Count.{ones}
 use lib.Dec.{eqb, leb}
-use lib.ListN.{length}
+use lib.IntN.{pos, negsuc}
+use lib.ListN.{length, replicate}
 use Rattle.column.specs.Mask.{parity}
-use Rattle.paths.specs.Lists.{filter}
 use Rattle.paths.specs.Paths.{Path}
 use Rattle.paths.specs.Tree.{Tree}
 use Rattle.search.specs.Values.{Values}
 use Rattle.search.specs.Order.{number, before}
 
 -- the rows 1101 and 0111
 abbrev pub topRow : ℕ
@@ -39,18 +37,6 @@ topWords = 0 ∷ 2 ∷ 5 ∷ 7 ∷ 9 ∷ 11 ∷ 12 ∷ 14 ∷ []
 abbrev pub lowWords : List ℕ
 lowWords = 0 ∷ 3 ∷ 5 ∷ 6 ∷ 8 ∷ 11 ∷ 13 ∷ 14 ∷ []
 
-pub whole-words-fit-both-rows : filter (λ w. fits topRow w && fits lowRow w) fourBitWords ≡ wholeWords
-unfolding filter parity ones
-whole-words-fit-both-rows = refl
-
-pub top-words-fit-the-top-row : filter (fits topRow) fourBitWords ≡ topWords
-unfolding filter parity ones
-top-words-fit-the-top-row = refl
-
-pub low-words-fit-the-low-row : filter (fits lowRow) fourBitWords ≡ lowWords
-unfolding filter parity ones
-low-words-fit-the-low-row = refl
-
 -- a path of at most four bits begins some word of the list
 unfoldable pub beginsSome : List ℕ → Path → Bool
 beginsSome [] p = false
@@ -61,3 +47,18 @@ fourBitWhole vs soft = record { size = 4; before = before vs soft; exists = begi
 
 abbrev pub fourBitSupercode : Values → List ℕ → Tree
 fourBitSupercode vs soft = record { size = 4; before = before vs soft; exists = λ p. beginsSome topWords p && beginsSome lowWords p }
+
+-- 01: "reading 0010, values +3 and −28", at every sureness
+abbrev pub valuesOf001 : Values
+valuesOf001 = record { agree = replicate 4 (pos 3); disagree = replicate 4 (negsuc 27) }
+
+abbrev pub softOf001 : List ℕ
+softOf001 = 0 ∷ 0 ∷ 7 ∷ 0 ∷ []
+
+-- 01: "all values 0"
+abbrev pub noValues : Values
+noValues = record { agree = replicate 4 (pos 0); disagree = replicate 4 (pos 0) }
+
+-- the path 001; the newest bit stands first
+abbrev pub path001 : Path
+path001 = true ∷ false ∷ false ∷ []

@@ -1,0 +1,10 @@
+pub mod Listed
+pub mod AllBelow
+pub mod Joined
+pub mod LastTwo
+pub mod Check
+pub mod Places
+pub mod Blocks
+pub mod Undone
+pub mod Accepts
+pub mod Bytes

@@ -1,0 +1,3 @@
+pub mod Weights
+pub mod Ways
+pub mod Lists

@@ -1,0 +1,3 @@
+pub mod Heap
+pub mod Moves
+pub mod Holds

@@ -1,0 +1,44 @@
+-- Sizes of sums, and sums in 16 bits. Assumes nothing.
+use Prim.Native.Nat.{ℕ, suc, _+_, _≤_, _<_}
+use native.Mathlib.Omega.{arith}
+use native.Mathlib.Nat.{le-refl}
+use mathlib.Core.Bool.{Bool, true, false}
+use mathlib.Core.Path.{_≡_, refl, sym, ap, ap₂, _∙_, subst, subst⁻¹}
+use lib.IntN.{ℤ, pos, negsuc, natAbs, _+ℤ_, subℕ}
+use lib.Signed.{mag, ltZ}
+use lib.Dec.{ltb}
+use borrow.Author.Tests.{ltb-true, ltb-false}
+use mir.Syntax.{w16}
+use mir.Val.{SFits, toZ, ofZ}
+use mir.Facts.{toZ-ofZ}
+
+sub-near : (a b : ℕ) → natAbs (subℕ a b) ≤ a + b
+sub-near a b = go (ltb a b) refl
+  where
+    go : (t : Bool) → ltb a b ≡ t → natAbs (subℕ a b) ≤ a + b
+    go true e = rw e (omega (arith, ltb-true a b e))
+    go false e = rw e (omega (arith, ltb-false a b e))
+
+pub add-near : (y z : ℤ) → natAbs (y +ℤ z) ≤ natAbs y + natAbs z
+add-near (pos a) (pos b) = le-refl (a + b)
+add-near (pos a) (negsuc b) = sub-near a (suc b)
+add-near (negsuc a) (pos b) = omega (arith, sub-near b (suc a))
+add-near (negsuc a) (negsuc b) = omega arith
+
+pub mag-le : (z : ℤ) → mag z ≤ natAbs z
+mag-le (pos n) = omega arith
+mag-le (negsuc n) = omega arith
+
+pub near-fits : (z : ℤ) → natAbs z < 32768 → SFits w16 z
+near-fits z h = record { sfits = omega (arith, mag-le z) }
+
+-- the sum of two that are read back from their bits
+pub sum-fits : (y z : ℤ) → SFits w16 y → SFits w16 z → SFits w16 (y +ℤ z) → SFits w16 (toZ w16 (ofZ w16 y) +ℤ toZ w16 (ofZ w16 z))
+sum-fits y z fy fz f = subst⁻¹ (λ (x : ℤ). SFits w16 x) (ap₂ _+ℤ_ (toZ-ofZ fy) (toZ-ofZ fz)) f
+
+pub sum-back : (y z : ℤ) → SFits w16 y → SFits w16 z → SFits w16 (y +ℤ z) → toZ w16 (ofZ w16 (toZ w16 (ofZ w16 y) +ℤ toZ w16 (ofZ w16 z))) ≡ y +ℤ z
+sum-back y z fy fz f = ap (λ (x : ℤ). toZ w16 (ofZ w16 x)) (ap₂ _+ℤ_ (toZ-ofZ fy) (toZ-ofZ fz)) ∙ toZ-ofZ f
+
+-- what a test of two signed numbers says: a signed local holds bits, so the flag speaks of what is read back from them
+pub lt-flag : {t : Bool} (a b : ℤ) → SFits w16 a → SFits w16 b → ltZ (toZ w16 (ofZ w16 a)) (toZ w16 (ofZ w16 b)) ≡ t → ltZ a b ≡ t
+lt-flag a b fa fb e = sym (ap₂ ltZ (toZ-ofZ fa) (toZ-ofZ fb)) ∙ e

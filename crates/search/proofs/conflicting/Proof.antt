@@ -1,0 +1,17 @@
+use borrow.Author.Tests.{eq-eqb, ne-eqb}
+use Rattle.search.proofs.conflicting.Statement.{statement}
+use Rattle.search.proofs.conflicting.Tie as tie
+use Rattle.search.proofs.conflicting.Reads as reads
+use Rattle.search.proofs.conflicting.Lts as lts
+
+returns : tie.Need-returns
+returns c = rw (eq-eqb _ _ (c .if1 .taken))
+
+returns-2 : tie.Need-returns-2
+returns-2 c = rw (ne-eqb _ _ (c .before .if1 .left), eq-eqb _ _ (c .if2 .taken))
+
+returns-3 : tie.Need-returns-3
+returns-3 c = rw (ne-eqb _ _ (c .before .if1 .left), ne-eqb _ _ (c .if2 .left))
+
+pub conflicting-spec : {M : Type 1} → statement M
+conflicting-spec = tie.close (tie.spec returns returns-2 returns-3)

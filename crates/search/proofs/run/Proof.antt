@@ -1,0 +1,123 @@
+use Prim.Native.Nat.{_-_}
+use mathlib.Core.Logic.{inl, inr}
+use mathlib.Core.List.{List}
+use mir.Syntax.{w16}
+use mir.Val.{toZ, SFits}
+use Rattle.heap.specs.Holds.{Holds}
+use Rattle.search.specs.Keys.{Key, key}
+use Rattle.search.specs.Places.{at, Room, Upto}
+use Rattle.search.specs.Steps.{tableNodes, Standing, Going}
+use Rattle.search.proofs.Advances.{advanced-at}
+use Rattle.search.proofs.Continues.{going-start, going-next, answered, ended, standing-at, standing-next, standing-end, reached-by}
+use native.Mathlib.Omega.{arith}
+use Rattle.search.proofs.run.Statement.{statement}
+use Rattle.search.proofs.run.Tie as tie
+use Rattle.search.proofs.run.Reads as reads
+use Rattle.search.proofs.run.Lts as lts
+use Rattle.search.proofs.advance.Reads as advance-reads
+
+abbrev Inv-loop : tie.InvT-loop
+Inv-loop sums₀ lens₀ bits₀ n col left right values limit paths₀ count₀ s₀ l₀ b₀ sums lens bits paths count s l b =
+    Room sums lens bits × Standing n (at sums lens bits) paths count (key (toZ w16 s) l b)
+    × ((xs : List Key) → Holds Upto (at sums₀ lens₀ bits₀) paths₀ xs → Going (tableNodes n values col left right) n limit (at sums lens bits) count₀ (key (toZ w16 s₀) l₀ b₀) xs paths count (key (toZ w16 s) l b))
+
+abbrev μ-loop : tie.MeasureT-loop
+μ-loop sums₀ lens₀ bits₀ n col left right values limit paths₀ count₀ s₀ l₀ b₀ sums lens bits paths count s l b = limit - count
+
+loop-holds : tie.Need-loop-holds Inv-loop μ-loop
+loop-holds c =
+    let a = c .before .before .before .before in
+    let f : SFits w16 (a .args .state .sum) = record { sfits = c .struct-told .given .1 .1 .0 .1 } in (
+      a .pre .1 .1 .0,
+      standing-at _ _ _ _ _ _ _ f (a .pre .1 .1 .1),
+      λ xs h. going-start (a .args .n) (a .args .values .now) (a .args .col .now) (a .args .left .now) (a .args .right .now) (a .args .limit) _ _ _ _ xs h,
+    )
+
+advance-requires : tie.Need-advance-requires Inv-loop μ-loop
+advance-requires c κs =
+    let i = c .before .before .before in
+    let v = i .before .loop .inv in
+    let a = i .before .before .before .before .before .before in
+    (omega (arith, v .1 .few, a .pre .0, i .loop-test .taken), (a .pre .1 .0, (v .1 .good, (v .0, (v .1 .heap, v .1 .held)))))
+
+returns : tie.Need-returns Inv-loop μ-loop
+returns c =
+    let st = c .before in
+    let av = st .before in
+    let i = av .before .before .before .before in
+    let v = i .before .loop .inv in
+    let told = i .before .before in
+    let a = told .before .before .before .before in
+    let f : SFits w16 (a .args .state .sum) = record { sfits = told .struct-told .given .1 .1 .0 .1 } in
+    let d = advanced-at _ _ _ _ _ _ _ _ _ _ (record { sfits = st .struct-told2 .given .1 .0 .1 }) (av .advance .ensures .1) in (
+      av .advance .ensures .0,
+      (
+        standing-end (a .args .n) (a .args .values .now) (a .args .col .now) (a .args .left .now) (a .args .right .now) (a .args .limit) _ _ _ _ _ _ _ d (v .1) (c .if1 .taken),
+        λ vs tb xs h. reached-by (a .args .n) (a .args .col .now) (a .args .left .now) (a .args .right .now) (a .args .values .now) vs (a .pre .1 .0) tb (a .args .limit) _ _ _ _ _ xs _ _ _ f (record { way = inr (inr (ended (a .args .n) (a .args .values .now) (a .args .col .now) (a .args .left .now) (a .args .right .now) (a .args .limit) _ _ _ _ xs _ _ _ _ _ (i .loop-test .taken) d (v .2 xs h) (c .if1 .taken))) }),
+      ),
+    )
+
+add-count : tie.Need-add-count Inv-loop μ-loop
+add-count c =
+    let i = c .before .before .before .before .before .before in
+    omega (arith, i .before .before .before .before .before .before .pre .0, i .loop-test .taken)
+
+returns-2 : tie.Need-returns-2 Inv-loop μ-loop
+returns-2 c =
+    let st = c .before .before in
+    let av = st .before in
+    let i = av .before .before .before .before in
+    let v = i .before .loop .inv in
+    let told = i .before .before in
+    let a = told .before .before .before .before in
+    let f : SFits w16 (a .args .state .sum) = record { sfits = told .struct-told .given .1 .1 .0 .1 } in
+    let d = advanced-at _ _ _ _ _ _ _ _ _ _ (record { sfits = st .struct-told2 .given .1 .0 .1 }) (av .advance .ensures .1) in (
+      av .advance .ensures .0,
+      (
+        standing-next (a .args .n) (a .args .values .now) (a .args .col .now) (a .args .left .now) (a .args .right .now) (a .args .limit) _ _ _ _ _ _ _ d (v .1),
+        λ vs tb xs h. reached-by (a .args .n) (a .args .col .now) (a .args .left .now) (a .args .right .now) (a .args .values .now) vs (a .pre .1 .0) tb (a .args .limit) _ _ _ _ _ xs _ _ _ f (record { way = inr (inl (answered (a .args .n) (a .args .values .now) (a .args .col .now) (a .args .left .now) (a .args .right .now) (a .args .limit) _ _ _ _ xs _ _ _ _ _ (i .loop-test .taken) d (v .2 xs h) (c .before .if1 .left) (c .if2 .taken))) }),
+      ),
+    )
+
+loop-less : tie.Need-loop-less Inv-loop μ-loop
+loop-less c =
+    let i = c .before .before .before .before .before .before .before in
+    omega (arith, i .loop-test .taken)
+
+loop-again : tie.Need-loop-again Inv-loop μ-loop
+loop-again c =
+    let st = c .before .before in
+    let av = st .before in
+    let i = av .before .before .before .before in
+    let v = i .before .loop .inv in
+    let told = i .before .before in
+    let a = told .before .before .before .before in
+    let f : SFits w16 (a .args .state .sum) = record { sfits = told .struct-told .given .1 .1 .0 .1 } in
+    let d = advanced-at _ _ _ _ _ _ _ _ _ _ (record { sfits = st .struct-told2 .given .1 .0 .1 }) (av .advance .ensures .1) in (
+      av .advance .ensures .0,
+      standing-next (a .args .n) (a .args .values .now) (a .args .col .now) (a .args .left .now) (a .args .right .now) (a .args .limit) _ _ _ _ _ _ _ d (v .1),
+      λ xs h. going-next (a .args .n) (a .args .values .now) (a .args .col .now) (a .args .left .now) (a .args .right .now) (a .args .limit) _ _ _ _ xs _ _ _ _ _ (i .loop-test .taken) d (v .2 xs h) (c .before .if1 .left) (c .if2 .left),
+    )
+
+returns-3 : tie.Need-returns-3 Inv-loop μ-loop
+returns-3 c =
+    let v = c .before .loop .inv in
+    let told = c .before .before in
+    let a = told .before .before .before .before in
+    let f : SFits w16 (a .args .state .sum) = record { sfits = told .struct-told .given .1 .1 .0 .1 } in
+    (v .0, (v .1, λ vs tb xs h. reached-by (a .args .n) (a .args .col .now) (a .args .left .now) (a .args .right .now) (a .args .values .now) vs (a .pre .1 .0) tb (a .args .limit) _ _ _ _ _ xs _ _ _ f (record { way = inl ((c .loop-test .left, v .2 xs h)) })))
+
+pub run-spec : {M : Type 1} → statement M
+run-spec =
+    tie.close
+    (tie.spec
+    Inv-loop
+    μ-loop
+    loop-holds
+    advance-requires
+    returns
+    add-count
+    returns-2
+    loop-less
+    loop-again
+    returns-3)

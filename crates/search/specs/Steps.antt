@@ -1,0 +1,120 @@
+-- What a search is given, what its keys are like, and what its steps do to the list that the heap holds. Assumes nothing.
+use mathlib.Core.Bool.{Bool, cond}
+use mathlib.Core.List.{List, [], _∷_}
+use mathlib.Core.Logic.{_⊎_}
+use mathlib.Core.Path.{_≡_}
+use Prim.Native.Nat.{ℕ, suc, _+_, _-_, _*_, _%_, _^_, _≤_, _<_}
+use lib.Dec.{eqb}
+use lib.IntN.{ℤ, pos, natAbs, _+ℤ_}
+use lib.ListN.{length, getD}
+use Rattle.paths.specs.Stack.{Nodes, grow}
+use Rattle.paths.specs.Search.{answer, spent}
+use Rattle.paths.specs.Keys.{run-keys}
+use Rattle.heap.specs.Heap.{weigh, Every, Heap}
+use Rattle.heap.specs.Holds.{Holds}
+use Rattle.search.specs.Values.{Values, branch}
+use Rattle.search.specs.Order.{bit}
+use Rattle.search.specs.Keys.{Key, key, keyBefore, keyPasses}
+use Rattle.search.specs.Places.{Upto, Out}
+
+-- a mask that is 0, or has its lowest bit
+abbrev pub Odd : ℕ → Type 0
+Odd m = (m ≡ 0) ⊎ (m % 2 ≡ 1)
+
+-- The entry 8 b + q of a table is what the soft value q gives to the bit b.
+pub record TableOf (vs : Values) (table : List ℤ) : Type 0 where
+  pub entry : (b : Bool) (q : ℕ) → q < 8 → getD table (bit b * 8 + q) (pos 0) ≡ branch vs (bit b) q
+
+-- the table of values: the entry 8 b + q is what the soft value q gives to the bit b; `table-of` says so
+abbrev pub tableOf : Values → List ℤ
+tableOf vs = branch vs 0 0 ∷ branch vs 0 1 ∷ branch vs 0 2 ∷ branch vs 0 3 ∷ branch vs 0 4 ∷ branch vs 0 5 ∷ branch vs 0 6 ∷ branch vs 0 7
+    ∷ branch vs 1 0 ∷ branch vs 1 1 ∷ branch vs 1 2 ∷ branch vs 1 3 ∷ branch vs 1 4 ∷ branch vs 1 5 ∷ branch vs 1 6 ∷ branch vs 1 7 ∷ []
+
+-- What a search is given: a soft column of n values, a mask of each code for each bit, and a table of values within 60 of zero.
+pub record Given (n : ℕ) (col ls rs : List ℕ) (table : List ℤ) : Type 0 where
+  pub some : 0 < n
+  pub most : n ≤ 42
+  pub softs : length col ≡ n
+  pub lefts : length ls ≡ n
+  pub rights : length rs ≡ n
+  pub entries : length table ≡ 16
+  pub soft : (k : ℕ) → k < n → getD col k 0 < 8
+  pub left : (k : ℕ) → k < n → Odd (getD ls k 0)
+  pub right : (k : ℕ) → k < n → Odd (getD rs k 0)
+  pub near : (k : ℕ) → k < 16 → natAbs (getD table k (pos 0)) ≤ 60
+
+-- the key of a path of at most n bits: its bits are as many as its length, and each gives at most 60 to the sum's size
+pub record Good (n : ℕ) (k : Key) : Type 0 where
+  pub short : k .len ≤ n
+  pub small : k .bits < 2 ^ k .len
+  pub near : natAbs (k .sum) ≤ 60 * k .len
+
+-- the key of a path on the stack
+pub record Held (n : ℕ) (k : Key) : Type 0 where
+  pub good : Good n k
+  pub some : 0 < k .len
+
+-- one bit more, its value taken from a table
+unfoldable pub tableExtension : List ℤ → List ℕ → Bool → Key → Key
+tableExtension table soft b k = key (k .sum +ℤ getD table (bit b * 8 + getD soft (k .len) 0) (pos 0)) (suc (k .len)) (k .bits * 2 + bit b)
+
+-- the nodes of the search on keys, with a table of values; `same-nodes` says that these are `keyNodes`
+abbrev pub tableNodes : ℕ → List ℤ → List ℕ → List ℕ → List ℕ → Nodes Key
+tableNodes n table soft left right = record {
+  extension = tableExtension table soft;
+  before = keyBefore;
+  exists = keyPasses left right;
+  full = λ k. eqb (k .len) n;
+}
+
+-- Of n that were there, y, the first, is out, and m are left; if none was there, y has no bits.
+pub record Next (f₀ f : ℕ → Key) (n m : ℕ) (y : Key) : Type 0 where
+  pub next : ((n ≡ 0) × (m ≡ 0) × (y ≡ key (pos 0) 0 0)) ⊎ ((0 < n) × (m ≡ n - 1) × Out f (n - 1) y (λ h. weigh h f₀ n))
+
+-- The extensions of p, if it is not full, are in, and y, the first, is out; m are left of n. If none was there, y has no bits.
+pub record Advanced (N : Nodes Key) (size : ℕ) (f₀ f : ℕ → Key) (n m : ℕ) (p y : Key) : Type 0 where
+  pub few : m ≤ n + 1
+  pub heap : Heap Upto f m
+  pub held : Every (Held size) f m
+  pub good : Good size y
+  pub none : y .len ≡ 0 → m ≡ 0
+  pub lists : (xs : List Key) → Holds Upto f₀ n xs
+      → ((y .len ≡ 0) × (grow N p xs ≡ [])) ⊎ ((0 < y .len) × (rest : List Key) × (grow N p xs ≡ y ∷ rest) × Holds Upto f m rest)
+
+-- A search stands: `paths` keys in the heap, `count` taken, the last of them known.
+pub record Standing (size : ℕ) (f : ℕ → Key) (paths count : ℕ) (last : Key) : Type 0 where
+  pub few : paths ≤ count
+  pub heap : Heap Upto f paths
+  pub held : Every (Held size) f paths
+  pub good : Good size last
+
+-- From c taken, p the last, xs on the stack, to c′ taken, p′ the last, and the heap's list on the stack: no word was taken but perhaps p′.
+module _ (N : Nodes Key) (size limit : ℕ) (f : ℕ → Key) (c : ℕ) (p : Key) (xs : List Key) (m c′ : ℕ) (p′ : Key) where
+  -- no word was taken on the way: every run goes on from there
+  pub record Going : Type 0 where
+    pub rest : List Key
+    pub holds : Holds Upto f m rest
+    pub later : c ≤ c′
+    pub within : (c′ ≤ limit) ⊎ (c′ ≡ c)
+    pub partial : (p′ .len < size) ⊎ (p′ ≡ p)
+    pub same : (accept : Key → Bool) (fuel : ℕ) → run-keys N accept (fuel + (c′ - c)) c (grow N p xs) ≡ run-keys N accept fuel c′ (grow N p′ rest)
+
+  -- p′ is a word, the first taken: every run that accepts it answers it, and every other goes on from there
+  pub record Answered : Type 0 where
+    pub rest : List Key
+    pub holds : Holds Upto f m rest
+    pub later : c < c′
+    pub within : c′ ≤ limit
+    pub full : p′ .len ≡ size
+    pub same : (accept : Key → Bool) (fuel : ℕ) → run-keys N accept (fuel + (c′ - c)) c (grow N p xs) ≡ cond (accept p′) (answer p′ c′) (run-keys N accept fuel c′ (grow N p′ rest))
+
+  -- the stack is empty: every run ends there
+  pub record Ended : Type 0 where
+    pub later : c ≤ c′
+    pub within : c′ < limit
+    pub none : p′ .len ≡ 0
+    pub same : (accept : Key → Bool) (fuel : ℕ) → run-keys N accept (fuel + (c′ - c)) c (grow N p xs) ≡ spent c′
+
+  -- the limit is reached, or a word is taken, or the stack is empty
+  pub record Reached : Type 0 where
+    pub way : ((limit ≤ c′) × Going) ⊎ (Answered ⊎ Ended)

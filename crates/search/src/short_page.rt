@@ -1,0 +1,58 @@
+// The searches of the short page's columns: 30 bits, 01's branch values.
+ghost use Prim.Native.Nat.{ℕ, _<_, _≤_};
+ghost use mathlib.Core.Path.{_≡_};
+ghost use lib.ListN.{length, getD};
+ghost use Rattle.column.specs.Shape.{short};
+ghost use Rattle.search.specs.Values.{values as branchValues};
+ghost use Rattle.search.specs.Demand.{Search, trellis};
+ghost use Rattle.search.specs.Trellis.{searched};
+ghost use Rattle.search.specs.Places.{Room};
+ghost use Rattle.search.specs.Steps.{tableOf};
+ghost use Rattle.search.specs.Outcomes.{codeOutcome, Searchable30, MasksFor};
+use crate::Outcome;
+
+// 01's branch values as a table: the entry 8 b + q is what the soft value q gives to the bit b. Made once and lent to the searches.
+pub fn values() -> [i16; 16]
+    ensures { λ r. ⌜ r ≡ tableOf branchValues ⌝ }
+{
+    [
+        2,
+        1,
+        -1,
+        -5,
+        -11,
+        -20,
+        -35,
+        -60,
+        -60,
+        -35,
+        -20,
+        -11,
+        -5,
+        -1,
+        1,
+        2,
+    ]
+}
+
+// The search of a soft column over lent arrays, which may hold anything: the whole or the supercode search of a level, by the masks that are lent.
+pub fn search_column(
+    sums: &mut [i16; 2002],
+    lens: &mut [u8; 2002],
+    bits: &mut [u64; 2002],
+    soft: &[u8],
+    left: &[u64],
+    right: &[u64],
+    table: &[i16; 16],
+    limit: u64,
+) -> Outcome
+    requires { ⌜ limit ≤ 2000 ⌝ }
+    requires { ⌜ now table ≡ tableOf branchValues ⌝ }
+    requires { ⌜ Searchable30 (now soft) (now left) (now right) ⌝ }
+    requires { ⌜ Room (now sums) (now lens) (now bits) ⌝ }
+    ensures { λ r. ⌜ Room (now (sums .exit)) (now (lens .exit)) (now (bits .exit)) ⌝ }
+    ensures { λ r. ⌜ ((s : Search) (i : ℕ) → i < 4 → MasksFor s i (now (left .entry)) (now (right .entry))
+        → r ≡ codeOutcome (searched (trellis s short branchValues (now (soft .entry)) i) limit)) ⌝ }
+{
+    crate::search(sums, lens, bits, 30, soft, left, right, table, limit)
+}
