@@ -3,6 +3,8 @@
 
 test: tools listed
 	@tests/run-vectors
+	@tests/run-vectors tests/libfec
+	@tests/run-vectors tests/known
 	@rt ci
 
 run: tools

@@ -10,10 +10,17 @@ typedef struct { uint64_t number, place, value; } told;
 /* What a search tells: the word and the count where number is 0. */
 typedef struct { uint64_t number, place, word, count; } found;
 
+/* What a call that fills a buffer tells. */
+typedef struct { uint64_t number, place; } filled;
+
 told entry_encode_column(const uint8_t *symbols, size_t count);
 told entry_level_word(uint64_t level, uint64_t symbol);
 told entry_reimage(uint64_t column, uint64_t level);
 found entry_search_whole(const uint8_t *soft, size_t count, uint64_t level, uint64_t limit);
 found entry_search_supercode(const uint8_t *soft, size_t count, uint64_t level, uint64_t limit);
+filled entry_encode_row(uint64_t level, const uint8_t *data, size_t count, uint8_t *out, size_t room);
+filled entry_decode_row(uint64_t level, const uint8_t *symbols, size_t count, const uint8_t *marks, size_t marked, uint8_t *out, size_t room);
+filled entry_write_dump(const uint8_t *soft, size_t count, uint8_t *out, size_t room);
+filled entry_read_dump(const uint8_t *dump, size_t count, uint8_t *out, size_t room);
 
 #endif

@@ -6,7 +6,7 @@
 #include <stdlib.h>
 #include <string.h>
 
-enum { LINE = 8192, FIELDS = 16 };
+enum { LINE = 8192, FIELDS = 16, ROW = 63, SOFT = 1890, DUMP = 2048 };
 
 typedef struct { char *field[FIELDS]; int count; } record;
 typedef struct { unsigned long checked, differ, left; } tally;
@@ -42,6 +42,14 @@ static verdict refuses(uint64_t number, uint64_t place, const record *r) {
     return number == decimal(r->field[r->count - 2]) && place == decimal(r->field[r->count - 1]) ? SAME : DIFFERS;
 }
 
+/* A byte that no call writes by chance: what a buffer holds before a call. */
+enum { UNTOUCHED = 0xa5 };
+
+static int untouched(const uint8_t *out, size_t n) {
+    for (size_t i = 0; i < n; i++) if (out[i] != UNTOUCHED) return 0;
+    return 1;
+}
+
 /* code.txt */
 static verdict code_line(const record *r) {
     if (!strcmp(r->field[0], "encode") && r->count == 6) {
@@ -73,9 +81,61 @@ static verdict column_line(const record *r) {
     return f.number == 0 && f.word == decimal(r->field[4]) && f.count == decimal(r->field[5]) ? SAME : DIFFERS;
 }
 
+/* What a row call wrote is the word of the line, or nothing. */
+static verdict wrote(filled f, const uint8_t *out, const char *expected) {
+    uint8_t word[ROW];
+    if (!strcmp(expected, "10")) return f.number == 10 && f.place == 0 && untouched(out, ROW) ? SAME : DIFFERS;
+    return f.number == 0 && bytes_of(expected, word, ROW) == ROW && !memcmp(out, word, ROW) ? SAME : DIFFERS;
+}
+
+/* outer.txt */
+static verdict outer_line(const record *r) {
+    uint8_t in[LINE], marks[LINE], out[ROW];
+    memset(out, UNTOUCHED, ROW);
+    size_t n = r->count > 2 ? bytes_of(r->field[2], in, sizeof in) : 0;
+    if (!strcmp(r->field[0], "encode") && r->count == 4)
+        return wrote(entry_encode_row(decimal(r->field[1]), in, n, out, ROW), out, r->field[3]);
+    if (!strcmp(r->field[0], "decode") && r->count == 5) {
+        size_t marked = strlen(r->field[3]);
+        for (size_t i = 0; i < marked; i++) marks[i] = (uint8_t)(r->field[3][i] - '0');
+        return wrote(entry_decode_row(decimal(r->field[1]), in, n, marks, marked, out, ROW), out, r->field[4]);
+    }
+    return DIFFERS;
+}
+
+/* A refused row call changes nothing. */
+static verdict row_refuses(filled f, const uint8_t *out, const record *r) {
+    return refuses(f.number, f.place, r) == SAME && (f.number == 0 || untouched(out, ROW)) ? SAME : DIFFERS;
+}
+
+/* The input of a dump line: all zero, or the dump of the all-zero soft page, cut or lengthened by zeros, with the line's edits. */
+static void dump_input(uint8_t *in, int of_dump, const char *edits) {
+    static uint8_t soft[SOFT];
+    memset(in, 0, LINE);
+    if (of_dump) entry_write_dump(soft, SOFT, in, DUMP);
+    for (const char *at = edits; strcmp(edits, "-") && at; at = strchr(at, ',') ? strchr(at, ',') + 1 : NULL) {
+        unsigned long place = strtoul(at, NULL, 10), value = strtoul(strchr(at, ':') + 1, NULL, 10);
+        in[place] = (uint8_t)value;
+    }
+}
+
+typedef filled filling(const uint8_t *in, size_t count, uint8_t *out, size_t room);
+
+static verdict dump_refuses(filling *call, const record *r, int of_dump, size_t whole) {
+    static uint8_t in[LINE], out[LINE];
+    size_t n = decimal(r->field[1]), room = decimal(r->field[2]);
+    if (n > LINE || room > LINE || whole > LINE) return DIFFERS;
+    dump_input(in, of_dump, r->field[3]);
+    if (of_dump && n < whole) memset(in + n, 0, LINE - n);
+    memset(out, UNTOUCHED, LINE);
+    filled f = call(in, n, out, room);
+    return refuses(f.number, f.place, r) == SAME && (f.number == 0 || untouched(out, LINE)) ? SAME : DIFFERS;
+}
+
 /* refusals.txt */
 static verdict refusal_line(const record *r) {
-    uint8_t bytes[LINE];
+    uint8_t bytes[LINE], marks[LINE], out[ROW];
+    memset(out, UNTOUCHED, ROW);
     if (!strcmp(r->field[0], "encode_column") && r->count == 4) {
         size_t n = bytes_of(r->field[1], bytes, sizeof bytes);
         told t = entry_encode_column(bytes, n);
@@ -94,6 +154,18 @@ static verdict refusal_line(const record *r) {
         found f = searched(r->field[1], bytes, n, decimal(r->field[2]), decimal(r->field[3]));
         return refuses(f.number, f.place, r);
     }
+    if (!strcmp(r->field[0], "outer_encode") && r->count == 5) {
+        size_t n = bytes_of(r->field[2], bytes, sizeof bytes);
+        return row_refuses(entry_encode_row(decimal(r->field[1]), bytes, n, out, ROW), out, r);
+    }
+    if (!strcmp(r->field[0], "outer_decode") && r->count == 6) {
+        size_t n = bytes_of(r->field[2], bytes, sizeof bytes), marked = bytes_of(r->field[3], marks, sizeof marks);
+        return row_refuses(entry_decode_row(decimal(r->field[1]), bytes, n, marks, marked, out, ROW), out, r);
+    }
+    if (!strcmp(r->field[0], "write_dump") && r->count == 6)
+        return dump_refuses(entry_write_dump, r, 0, SOFT);
+    if (!strcmp(r->field[0], "read_dump") && r->count == 6)
+        return dump_refuses(entry_read_dump, r, 1, DUMP);
     return LEFT;
 }
 
@@ -127,6 +199,7 @@ int main(int argc, char **argv) {
     tally files[] = {
         check_file(folder, "code.txt", code_line),
         check_file(folder, "columns.txt", column_line),
+        check_file(folder, "outer.txt", outer_line),
         check_file(folder, "refusals.txt", refusal_line),
     };
     unsigned long checked = 0, differ = 0;

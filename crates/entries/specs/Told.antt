@@ -3,6 +3,12 @@ use Rattle.store.specs.Answer.{number, place, value}
 use Rattle.store.specs.declared.Answer.{Answer}
 use Rattle.store.specs.declared.SearchAnswer.{SearchAnswer}
 use Rattle.store.specs.Searches as searches
+use mathlib.Core.List.{List}
+use mathlib.Core.Path.{_≡_}
+use Prim.Native.Nat.{ℕ}
+use Rattle.store.specs.declared.Outcome.{Outcome}
+use Rattle.store.specs.Outcome as outcomes
+use Rattle.entries.specs.declared.Reply.{Reply}
 use Rattle.entries.specs.declared.Told.{Told}
 use Rattle.entries.specs.declared.Found.{Found}
 
@@ -11,3 +17,11 @@ toldOf a = record { number = number a; place = place a; value = value a }
 
 abbrev pub foundOf : SearchAnswer → Found
 foundOf a = record { number = searches.number a; place = searches.place a; word = searches.word a; count = searches.count a }
+
+abbrev pub replyOf : Outcome → Reply
+replyOf o = record { number = outcomes.number o; place = outcomes.place o }
+
+-- a call that is due to answer `due`, and to make `made` where it does not refuse, told r and left `new` in the place of `old`
+pub record Replied (due : Outcome) (made old : List ℕ) (r : Reply) (new : List ℕ) : Type 0 where
+  pub answer : r ≡ replyOf due
+  pub bytes : new ≡ outcomes.after due made old

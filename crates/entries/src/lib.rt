@@ -3,8 +3,13 @@ ghost use mathlib.Core.Path.{_≡_};
 ghost use Rattle.store.specs.Columns.{encodeAnswer, levelWordAnswer, reimageAnswer};
 ghost use Rattle.search.specs.Demand.{whole, supercode};
 ghost use Rattle.store.specs.Searches.{searchAnswer};
-ghost use Rattle.entries.specs.Told.{toldOf, foundOf};
+ghost use Rattle.outer.specs.Row.{outerAnswer, encodedRow, wordOf};
+ghost use Rattle.dump.specs.Dump.{dumpOf, softOf};
+ghost use Rattle.store.specs.Rows.{rootsOf, encodeRowAnswer, decodeRowAnswer};
+ghost use Rattle.store.specs.Dumps.{writeAnswer, readAnswer};
+ghost use Rattle.entries.specs.Told.{toldOf, foundOf, replyOf, Replied};
 use store::Answer;
+use store::Outcome;
 use store::SearchAnswer;
 
 #[repr(C)]
@@ -91,4 +96,59 @@ pub extern "C" fn entry_search_supercode(soft: &[u8], level: u64, limit: u64) ->
     ensures { λ r. ⌜ r ≡ foundOf (searchAnswer supercode (now (soft .entry)) level limit) ⌝ }
 {
     numbers_of_search(store::searches::search_supercode(soft, level, limit))
+}
+
+#[repr(C)]
+pub struct Reply {
+    pub number: u64,
+    pub place: u64,
+}
+
+fn numbers_of_outcome(outcome: Outcome) -> Reply
+    ensures { λ r. ⌜ r ≡ replyOf outcome ⌝ }
+{
+    match outcome {
+        Outcome::Done => Reply {
+            number: 0,
+            place: 0,
+        },
+        Outcome::Refused(n, p) => Reply {
+            number: n,
+            place: p,
+        },
+    }
+}
+
+#[no_mangle]
+pub extern "C" fn entry_encode_row(level: u64, data: &[u8], out: &mut [u8]) -> Reply
+    ensures { λ r. ⌜ Replied (encodeRowAnswer level (now («data» .entry)) (now (out .entry))) (encodedRow 6 67 63 (rootsOf level) (now («data» .entry))) (now (out .entry)) r (now (out .exit)) ⌝ }
+{
+    numbers_of_outcome(store::rows::encode_row(level, data, out))
+}
+
+#[no_mangle]
+pub extern "C" fn entry_decode_row(
+    level: u64,
+    symbols: &[u8],
+    marks: &[u8],
+    out: &mut [u8],
+) -> Reply
+    ensures { λ r. ⌜ Replied (decodeRowAnswer level (now (symbols .entry)) (now (marks .entry)) (now (out .entry)))
+        (wordOf (now (out .entry)) (outerAnswer 6 67 63 (rootsOf level) (now (symbols .entry)) (now (marks .entry)))) (now (out .entry)) r (now (out .exit)) ⌝ }
+{
+    numbers_of_outcome(store::rows::decode_row(level, symbols, marks, out))
+}
+
+#[no_mangle]
+pub extern "C" fn entry_write_dump(soft: &[u8], out: &mut [u8]) -> Reply
+    ensures { λ r. ⌜ Replied (writeAnswer (now (soft .entry)) (now (out .entry))) (dumpOf (now (soft .entry))) (now (out .entry)) r (now (out .exit)) ⌝ }
+{
+    numbers_of_outcome(store::dumps::write_dump(soft, out))
+}
+
+#[no_mangle]
+pub extern "C" fn entry_read_dump(dump: &[u8], out: &mut [u8]) -> Reply
+    ensures { λ r. ⌜ Replied (readAnswer (now (dump .entry)) (now (out .entry))) (softOf (now (dump .entry))) (now (out .entry)) r (now (out .exit)) ⌝ }
+{
+    numbers_of_outcome(store::dumps::read_dump(dump, out))
 }

@@ -11,3 +11,7 @@ refused {made = made} {old = old} e = record { answer = sym e; bytes = sym (ap (
 
 pub done : {due : Outcome} {made old new : List ℕ} → due ≡ Done → new ≡ made → Filled due made old Done new
 done {made = made} {old = old} e is = record { answer = sym e; bytes = is ∙ sym (ap (λ (o : Outcome). after o made old) e) }
+
+-- refused after the work was tried: what was lent is as it was
+pub refused-unwritten : {due : Outcome} {made old new : List ℕ} {n p : ℕ} → due ≡ Refused n p → new ≡ old → Filled due made old (Refused n p) new
+refused-unwritten {made = made} {old = old} e is = record { answer = sym e; bytes = is ∙ sym (ap (λ (o : Outcome). after o made old) e) }

@@ -4,3 +4,4 @@ pub mod Columns
 pub mod Searches
 pub mod Outcome
 pub mod Dumps
+pub mod Rows

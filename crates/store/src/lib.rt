@@ -3,6 +3,7 @@
 pub mod columns;
 pub mod dumps;
 pub mod questions;
+pub mod rows;
 pub mod searches;
 
 // What a call that gives one number answers. `number`, `place` and `value` of specs/Answer.antt are 01's words for its cases.

@@ -1,0 +1,12 @@
+pub mod Sums
+pub mod Words
+pub mod Sifting
+pub mod Quotient
+pub mod Product
+pub mod Encoding
+pub mod Elimination
+pub mod Listing
+pub mod Decoding
+pub mod Search
+pub mod Row
+pub mod Steps

@@ -1,0 +1,72 @@
+// The corrected row, and how far it is from the one received.
+use crate::erasure;
+use crate::locate;
+use crate::root;
+use crate::syndrome;
+use crate::value;
+ghost use mathlib.Core.Path.{_≡_};
+ghost use Prim.Native.Nat.{_≤_};
+ghost use native.Mathlib.Decide.{ℕ-discrete};
+ghost use lib.Dec.{eqb};
+ghost use lib.ListN.{length};
+ghost use Rattle.outer.specs.Words.{count, errors, wrong as wrongIn};
+ghost use Rattle.outer.specs.Row.{symbol, Symbols, marked};
+ghost use Rattle.outer.specs.Steps.{Padded, HasSyndromes, Suspected, IsCorrection};
+
+// The marks of the suspects of a row with the syndromes s, of which n columns are erased.
+fn suspected(marks: &[u8], s: [u8; 33], t: usize, n: usize) -> [u8; 64]
+    requires { ⌜ (63 ≤ length (now marks)) × (t ≤ 30) × (n ≤ t) × (n ≡ count (marked (now marks)) 63) × Symbols 6 s ⌝ }
+    ensures { λ r. ⌜ Suspected 6 67 63 t (now (marks .entry)) s r ⌝ }
+{
+    let mut m = s;
+    erasure::strip(&mut m, marks, n);
+    let f = locate::locator(&m, (t - n) / 2);
+    let d = f.degree;
+    let row = f.row;
+    let values = root::all_values(&row, d);
+    root::suspects(marks, &values)
+}
+
+// A row and its syndromes.
+pub struct Row {
+    pub symbols: [u8; 64],
+    pub syndromes: [u8; 33],
+}
+
+// The row with its suspects corrected.
+pub(crate) fn corrected(w: [u8; 64], marks: &[u8], s: [u8; 33], t: usize, n: usize) -> Row
+    requires { ⌜ (63 ≤ length (now marks)) × (t ≤ 30) × (n ≤ t) × (n ≡ count (marked (now marks)) 63) × Padded 6 63 w × HasSyndromes 6 67 63 t w s ⌝ }
+    ensures { λ r. ⌜ IsCorrection 6 67 63 t (now (marks .entry)) w (r .symbols) × HasSyndromes 6 67 63 t (r .symbols) (r .syndromes) ⌝ }
+{
+    let flags = suspected(marks, s, t, n);
+    let f = root::places_of(&flags);
+    let k = f.k;
+    let xs = f.xs;
+    let g = value::polynomial(&xs, k);
+    let ys = value::all_amounts(&g, &s, k, &xs);
+    let symbols = value::added(w, &flags, &ys);
+    let syndromes = syndrome::summed(s, &ys, &xs, k, t);
+    Row { symbols, syndromes }
+}
+
+// 1 for a column that is not erased and has two symbols that differ, else 0
+fn differs(mark: u8, a: u8, b: u8) -> u8
+    ensures { λ r. ⌜ r ≡ wrongIn (eqb mark 1) (ℕ-discrete a b) ⌝ }
+{
+    if mark == 1 {
+        return 0;
+    }
+    if a == b { 0 } else { 1 }
+}
+
+// In how many columns that are not erased two rows differ.
+pub(crate) fn wrong(w: &[u8], v: &[u8], marks: &[u8]) -> usize
+    requires { ⌜ (63 ≤ length (now w)) × (63 ≤ length (now v)) × (63 ≤ length (now marks)) ⌝ }
+    ensures { λ r. ⌜ r ≡ errors ℕ-discrete (marked (now (marks .entry))) 63 (symbol (now (w .entry))) (symbol (now (v .entry))) ⌝ }
+{
+    let mut e: u8 = 0;
+    for j in 0..63 {
+        e += differs(marks[j], w[j], v[j]);
+    }
+    e as usize
+}
