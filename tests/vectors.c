@@ -1,18 +1,19 @@
 /* Checks the vector files of a folder through the test entries: a line a file, then `N checked, M differ`.
    The formats are those of tests/vectors/README.md. A line of a call that the store does not have yet is counted as left. */
 #include "entries.h"
+#include <dirent.h>
 #include <inttypes.h>
 #include <stdio.h>
 #include <stdlib.h>
 #include <string.h>
 
-enum { LINE = 8192, FIELDS = 16, ROW = 63, SOFT = 1890, DUMP = 2048 };
+enum { LINE = 8192, FIELDS = 16, ROW = 63, SOFT = 1890, DUMP = 2048, DATA = 150, WRITTEN = 252 };
 
 typedef struct { char *field[FIELDS]; int count; } record;
 typedef struct { unsigned long checked, differ, left; } tally;
 
-/* What a line says of the store: as it should be, otherwise, or a call that is not there yet. */
-typedef enum { SAME, DIFFERS, LEFT } verdict;
+/* What a line says of the store: as it should be, otherwise, a call that is not there yet, or nothing by itself. */
+typedef enum { SAME, DIFFERS, LEFT, PASSED } verdict;
 
 static record split(char *line) {
     record r = {{0}, 0};
@@ -108,7 +109,43 @@ static verdict row_refuses(filled f, const uint8_t *out, const record *r) {
     return refuses(f.number, f.place, r) == SAME && (f.number == 0 || untouched(out, ROW)) ? SAME : DIFFERS;
 }
 
-/* The input of a dump line: all zero, or the dump of the all-zero soft page, cut or lengthened by zeros, with the line's edits. */
+static paged decoded(const char *mode, const uint8_t *soft, size_t n, uint64_t limit, uint8_t *data, size_t room) {
+    return mode[0] == 'w' ? entry_decode_page_whole(soft, n, limit, data, room) : entry_decode_page(soft, n, limit, data, room);
+}
+
+/* pages.txt: a record is its lines page, data, written, soft, then expect lines. What the expect lines need is kept from the lines before. */
+static uint8_t page_data[DATA], page_soft[SOFT];
+
+static int level_totals(const paged *p, const record *r) {
+    for (int i = 0; i < 4; i++)
+        if (p->changed[i] != decimal(r->field[5 + 2 * i]) || p->erased[i] != decimal(r->field[6 + 2 * i])) return 0;
+    return 1;
+}
+
+static verdict page_line(const record *r) {
+    uint8_t out[WRITTEN], expected[WRITTEN];
+    memset(out, UNTOUCHED, sizeof out);
+    if (!strcmp(r->field[0], "page")) return PASSED;
+    if (!strcmp(r->field[0], "data") && r->count == 2) return bytes_of(r->field[1], page_data, DATA) == DATA ? PASSED : DIFFERS;
+    if (!strcmp(r->field[0], "written") && r->count == 2) {
+        filled f = entry_encode_page(page_data, DATA, out, WRITTEN);
+        return f.number == 0 && bytes_of(r->field[1], expected, WRITTEN) == WRITTEN && !memcmp(out, expected, WRITTEN) ? SAME : DIFFERS;
+    }
+    if (!strcmp(r->field[0], "soft") && r->count == 2 && strlen(r->field[1]) == SOFT) {
+        for (size_t i = 0; i < SOFT; i++) page_soft[i] = (uint8_t)(r->field[1][i] - '0');
+        return PASSED;
+    }
+    if (strcmp(r->field[0], "expect") || r->count < 6) return DIFFERS;
+    paged p = decoded(r->field[1], page_soft, SOFT, decimal(r->field[2]), out, DATA);
+    if (!strcmp(r->field[3], "refused") && r->count == 6)
+        return p.number == decimal(r->field[4]) && p.place == decimal(r->field[5]) && untouched(out, sizeof out) ? SAME : DIFFERS;
+    if (strcmp(r->field[3], "ok") || r->count != 14) return DIFFERS;
+    int same = !strcmp(r->field[13], "same");
+    if (!same && bytes_of(r->field[13], expected, WRITTEN) != DATA) return DIFFERS;
+    return p.number == 0 && p.steps == decimal(r->field[4]) && level_totals(&p, r) && !memcmp(out, same ? page_data : expected, DATA) ? SAME : DIFFERS;
+}
+
+/* The input of a dump or page line: all zero, or the dump of the all-zero soft page, cut or lengthened by zeros, with the line's edits. */
 static void dump_input(uint8_t *in, int of_dump, const char *edits) {
     static uint8_t soft[SOFT];
     memset(in, 0, LINE);
@@ -134,7 +171,7 @@ static verdict dump_refuses(filling *call, const record *r, int of_dump, size_t 
 
 /* refusals.txt */
 static verdict refusal_line(const record *r) {
-    uint8_t bytes[LINE], marks[LINE], out[ROW];
+    uint8_t bytes[LINE], marks[LINE], out[ROW], page[512];
     memset(out, UNTOUCHED, ROW);
     if (!strcmp(r->field[0], "encode_column") && r->count == 4) {
         size_t n = bytes_of(r->field[1], bytes, sizeof bytes);
@@ -162,6 +199,18 @@ static verdict refusal_line(const record *r) {
         size_t n = bytes_of(r->field[2], bytes, sizeof bytes), marked = bytes_of(r->field[3], marks, sizeof marks);
         return row_refuses(entry_decode_row(decimal(r->field[1]), bytes, n, marks, marked, out, ROW), out, r);
     }
+    if (!strcmp(r->field[0], "encode_page") && r->count == 5) {
+        memset(bytes, 0, sizeof bytes);
+        memset(page, UNTOUCHED, sizeof page);
+        filled f = entry_encode_page(bytes, decimal(r->field[1]), page, decimal(r->field[2]));
+        return refuses(f.number, f.place, r) == SAME && (f.number == 0 || untouched(page, sizeof page)) ? SAME : DIFFERS;
+    }
+    if (!strcmp(r->field[0], "decode_page") && r->count == 8) {
+        dump_input(bytes, 0, r->field[5]);
+        memset(page, UNTOUCHED, sizeof page);
+        paged p = decoded(r->field[3], bytes, decimal(r->field[1]), decimal(r->field[4]), page, decimal(r->field[2]));
+        return refuses(p.number, p.place, r) == SAME && (p.number == 0 || untouched(page, sizeof page)) ? SAME : DIFFERS;
+    }
     if (!strcmp(r->field[0], "write_dump") && r->count == 6)
         return dump_refuses(entry_write_dump, r, 0, SOFT);
     if (!strcmp(r->field[0], "read_dump") && r->count == 6)
@@ -181,6 +230,7 @@ static tally check_file(const char *folder, const char *name, verdict (*line_of)
         if (!r.count) continue;
         verdict v = line_of(&r);
         if (v == LEFT) { t.left++; continue; }
+        if (v == PASSED) continue;
         t.checked++;
         if (v == DIFFERS) {
             t.differ++;
@@ -194,13 +244,102 @@ static tally check_file(const char *folder, const char *name, verdict (*line_of)
     return t;
 }
 
+/* dumps/: NAME.bin is what readpage reads, NAME.out what it prints. */
+static verdict dump_file(const char *folder, const char *name) {
+    static uint8_t in[2 * LINE], soft[SOFT], data[DATA];
+    char path[4096], expected[LINE], found[LINE];
+    size_t stem = strlen(name) - 4;
+    snprintf(path, sizeof path, "%s/dumps/%s", folder, name);
+    FILE *file = fopen(path, "rb");
+    if (!file) return DIFFERS;
+    size_t n = fread(in, 1, sizeof in, file);
+    fclose(file);
+    snprintf(path, sizeof path, "%s/dumps/%.*s.out", folder, (int)stem, name);
+    if (!(file = fopen(path, "rb"))) return DIFFERS;
+    expected[fread(expected, 1, sizeof expected - 1, file)] = 0;
+    fclose(file);
+    filled f = entry_read_dump(in, n, soft, SOFT);
+    paged p = {0};
+    if (!f.number) {
+        p = entry_decode_page(soft, SOFT, 500, data, DATA);
+        f.number = p.number;
+        f.place = p.place;
+    }
+    if (f.number) {
+        snprintf(found, sizeof found, "page refused %" PRIu64 " place %" PRIu64 "\n", f.number, f.place);
+    } else {
+        int at = snprintf(found, sizeof found, "page ok steps %" PRIu64 "\n", p.steps);
+        for (int i = 0; i < 4; i++) at += snprintf(found + at, sizeof found - (size_t)at, "level %d changed %d erased %d\n", i, p.changed[i], p.erased[i]);
+        at += snprintf(found + at, sizeof found - (size_t)at, "data ");
+        for (int i = 0; i < DATA; i++) at += snprintf(found + at, sizeof found - (size_t)at, "%02x", data[i]);
+        snprintf(found + at, sizeof found - (size_t)at, "\n");
+    }
+    return strcmp(found, expected) ? DIFFERS : SAME;
+}
+
+static tally check_dumps(const char *folder) {
+    tally t = {0, 0, 0};
+    char path[4096];
+    snprintf(path, sizeof path, "%s/dumps", folder);
+    DIR *dir = opendir(path);
+    if (!dir) return t;
+    for (struct dirent *entry; (entry = readdir(dir));) {
+        size_t n = strlen(entry->d_name);
+        if (n < 5 || strcmp(entry->d_name + n - 4, ".bin")) continue;
+        t.checked++;
+        if (dump_file(folder, entry->d_name) == DIFFERS) {
+            t.differ++;
+            printf("%s/%s: differs\n", path, entry->d_name);
+        }
+    }
+    closedir(dir);
+    printf("dumps: %lu checked, %lu differ\n", t.checked, t.differ);
+    return t;
+}
+
+/* Random data come back from a written page read with surest values, by both decoders, through a dump; and no dump with one byte changed is accepted. */
+static tally check_trips(void) {
+    static uint8_t data[DATA], page[WRITTEN], soft[SOFT], again[SOFT], dump[DUMP], back[DATA];
+    tally t = {0, 0, 0};
+    uint64_t state = 20261115;
+    for (int trip = 0; trip < 40; trip++) {
+        for (int i = 0; i < DATA; i++) {
+            state = state * 6364136223846793005u + 1442695040888963407u;
+            data[i] = (uint8_t)(state >> 56);
+        }
+        entry_encode_page(data, DATA, page, WRITTEN);
+        for (int k = 0; k < SOFT; k++) soft[k] = page[k / 30 * 4 + k % 30 / 8] >> (7 - k % 30 % 8) & 1 ? 7 : 0;
+        filled w = entry_write_dump(soft, SOFT, dump, DUMP), r = entry_read_dump(dump, DUMP, again, SOFT);
+        paged s = entry_decode_page(again, SOFT, 500, back, DATA);
+        int same = !w.number && !r.number && !s.number && s.steps == 7560 && !memcmp(soft, again, SOFT) && !memcmp(data, back, DATA);
+        memset(back, UNTOUCHED, DATA);
+        paged h = entry_decode_page_whole(again, SOFT, 500, back, DATA);
+        t.checked++;
+        t.differ += !(same && !h.number && h.steps == 7560 && !memcmp(data, back, DATA));
+    }
+    for (int k = 0; k < DUMP; k++) {
+        uint8_t kept = dump[k];
+        dump[k] = (uint8_t)(kept + 1);
+        memset(again, UNTOUCHED, SOFT);
+        filled r = entry_read_dump(dump, DUMP, again, SOFT);
+        dump[k] = kept;
+        t.checked++;
+        t.differ += !(r.number && untouched(again, SOFT));
+    }
+    printf("round trips: %lu checked, %lu differ\n", t.checked, t.differ);
+    return t;
+}
+
 int main(int argc, char **argv) {
     const char *folder = argc > 1 ? argv[1] : "tests/vectors";
     tally files[] = {
         check_file(folder, "code.txt", code_line),
         check_file(folder, "columns.txt", column_line),
         check_file(folder, "outer.txt", outer_line),
+        check_file(folder, "pages.txt", page_line),
         check_file(folder, "refusals.txt", refusal_line),
+        check_dumps(folder),
+        check_trips(),
     };
     unsigned long checked = 0, differ = 0;
     for (size_t i = 0; i < sizeof files / sizeof files[0]; i++) {

@@ -8,6 +8,10 @@ use mathlib.Core.Path.{_≡_}
 use Prim.Native.Nat.{ℕ}
 use Rattle.store.specs.declared.Outcome.{Outcome}
 use Rattle.store.specs.Outcome as outcomes
+use Rattle.search.specs.Demand.{Search}
+use Rattle.page.specs.declared.pages.PageOutcome.{PageOutcome}
+use Rattle.store.specs.Pages.{PageDecoded}
+use Rattle.entries.specs.declared.PageReply.{PageReply}
 use Rattle.entries.specs.declared.Reply.{Reply}
 use Rattle.entries.specs.declared.Told.{Told}
 use Rattle.entries.specs.declared.Found.{Found}
@@ -25,3 +29,12 @@ replyOf o = record { number = outcomes.number o; place = outcomes.place o }
 pub record Replied (due : Outcome) (made old : List ℕ) (r : Reply) (new : List ℕ) : Type 0 where
   pub answer : r ≡ replyOf due
   pub bytes : new ≡ outcomes.after due made old
+
+abbrev pub pageReplyOf : PageOutcome → PageReply
+pageReplyOf o = record { number = o .number; place = o .place; steps = o .steps; changed = o .changed; erased = o .erased }
+
+-- a page call told r of the outcome that its contract settles, and left `new` in the place of `old`
+pub record PageReplied (s : Search) (soft : List ℕ) (limit : ℕ) (old : List ℕ) (r : PageReply) (new : List ℕ) : Type 0 where
+  pub outcome : PageOutcome
+  pub decoded : PageDecoded s soft limit old outcome new
+  pub told : r ≡ pageReplyOf outcome

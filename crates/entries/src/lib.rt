@@ -7,7 +7,12 @@ ghost use Rattle.outer.specs.Row.{outerAnswer, encodedRow, wordOf};
 ghost use Rattle.dump.specs.Dump.{dumpOf, softOf};
 ghost use Rattle.store.specs.Rows.{rootsOf, encodeRowAnswer, decodeRowAnswer};
 ghost use Rattle.store.specs.Dumps.{writeAnswer, readAnswer};
-ghost use Rattle.entries.specs.Told.{toldOf, foundOf, replyOf, Replied};
+ghost use Rattle.entries.specs.Told.{toldOf, foundOf, replyOf, Replied, pageReplyOf, PageReplied};
+ghost use Rattle.page.specs.Format.{shortPage};
+ghost use Rattle.page.specs.Written.{writtenPage};
+ghost use Rattle.page.specs.OuterCode.{shortEncoder};
+ghost use Rattle.store.specs.Pages.{encodePageAnswer};
+use page::pages::PageOutcome;
 use store::Answer;
 use store::Outcome;
 use store::SearchAnswer;
@@ -151,4 +156,48 @@ pub extern "C" fn entry_read_dump(dump: &[u8], out: &mut [u8]) -> Reply
     ensures { λ r. ⌜ Replied (readAnswer (now (dump .entry)) (now (out .entry))) (softOf (now (dump .entry))) (now (out .entry)) r (now (out .exit)) ⌝ }
 {
     numbers_of_outcome(store::dumps::read_dump(dump, out))
+}
+
+#[no_mangle]
+pub extern "C" fn entry_encode_page(data: &[u8], out: &mut [u8]) -> Reply
+    ensures { λ r. ⌜ Replied (encodePageAnswer (now («data» .entry)) (now (out .entry))) (writtenPage shortPage shortEncoder (now («data» .entry))) (now (out .entry)) r (now (out .exit)) ⌝ }
+{
+    numbers_of_outcome(store::pages::encode_page(data, out))
+}
+
+#[repr(C)]
+pub struct PageReply {
+    pub number: u64,
+    pub place: u64,
+    pub steps: u64,
+    pub changed: [u8; 4],
+    pub erased: [u8; 4],
+}
+
+fn numbers_of_page(outcome: PageOutcome) -> PageReply
+    ensures { λ r. ⌜ r ≡ pageReplyOf outcome ⌝ }
+{
+    let c = outcome.changed;
+    let e = outcome.erased;
+    PageReply {
+        number: outcome.number,
+        place: outcome.place,
+        steps: outcome.steps,
+        changed: c,
+        erased: e,
+    }
+}
+
+#[no_mangle]
+pub extern "C" fn entry_decode_page(soft: &[u8], limit: u64, data: &mut [u8]) -> PageReply
+    ensures { λ r. ⌜ PageReplied supercode (now (soft .entry)) limit (now («data» .entry)) r (now («data» .exit)) ⌝ }
+{
+    numbers_of_page(store::pages::decode_page(soft, limit, data))
+}
+
+#[no_mangle]
+pub extern "C" fn entry_decode_page_whole(soft: &[u8], limit: u64, data: &mut [u8]) -> PageReply
+    ensures { λ r. ⌜ PageReplied whole (now (soft .entry)) limit (now («data» .entry)) r (now («data» .exit)) ⌝ }
+{
+    numbers_of_page(store::pages::decode_page_whole(soft, limit, data))
 }

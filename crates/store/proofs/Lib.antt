@@ -2,7 +2,9 @@ pub mod FirstAbove
 pub mod Entries
 pub mod Outcomes
 pub mod RowRanges
+pub mod SoftValues
 pub mod DumpBlocks
 pub mod Filled
 pub mod AllInRange
 pub mod DumpAnswers
+pub mod BothDecoders

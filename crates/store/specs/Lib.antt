@@ -5,3 +5,5 @@ pub mod Searches
 pub mod Outcome
 pub mod Dumps
 pub mod Rows
+pub mod Pages
+pub mod BothDecoders

@@ -2,6 +2,7 @@
 // none asks anything of its caller. What a call answers is one definition of specs/, which reads like 01.
 pub mod columns;
 pub mod dumps;
+pub mod pages;
 pub mod questions;
 pub mod rows;
 pub mod searches;

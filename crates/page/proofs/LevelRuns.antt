@@ -1,0 +1,180 @@
+-- The loop over levels: the arrays hold what the run has given so far. Assumes nothing.
+use mathlib.Core.Bool.{Bool, true, false, not, true≢false}
+use mathlib.Core.List.{List, [], _∷_, _++_, map}
+use mathlib.Core.Logic.{⊎-elim}
+use mathlib.Core.Path.{_≡_, refl, sym, ap, ap₂, _∙_, subst, subst⁻¹}
+use Prim.Native.Nat.{ℕ, zero, suc, _+_, _-_, _*_, _≤_, _<_}
+use native.Mathlib.Nat.{eq-or-lt-of-le, lt-irrefl, not-suc-le-zero}
+use native.Mathlib.Numerals.{add-one}
+use native.Mathlib.Omega.{arith}
+use lib.Dec.{lit<}
+use lib.ListN.{length, length-set, length-map, getD, take, set, List·getD-eq-default}
+use lib.Seq.{take-suc-set, take-all, getD-set-same, getD-set-other}
+use Rattle.poly.proofs.Sum.{lt-or-le}
+use Rattle.column.specs.Shape.{short}
+use Rattle.page.specs.Outer.{RowAnswer, row, none}
+use Rattle.page.specs.Decode.{Reader, symbol, symbols, mark, marks, changed, decodedRow, Level, level, State, going, stopped, settle, onward, run, outcome, decoded, rows}
+use Rattle.page.specs.Flags.{flag}
+use Rattle.page.specs.Arrays.{SoftColumns, Rows}
+use Rattle.page.specs.OuterCode.{shortOuter, RowWord}
+use Rattle.page.specs.Levels.{Ended, LevelDone, changedFlags, erasedFlags, Ends, ColumnsDone}
+use Rattle.page.specs.declared.levels.LevelOut.{LevelOut}
+use Rattle.page.specs.declared.levels.ColumnsOutcome.the-variants.{Answered, Refused}
+use Rattle.page.proofs.Lists.{map-append}
+use Rattle.page.proofs.Entries.{changed-length}
+use Rattle.page.proofs.OuterJoint.{outer-laws}
+
+-- tests of what is not so
+pub not-so : (b : Bool) → not b ≡ true → b ≡ false
+not-so true e = absurd (true≢false (sym e))
+not-so false e = refl
+
+pub so : (b : Bool) → not b ≡ false → b ≡ true
+so true e = refl
+so false e = absurd (true≢false e)
+
+-- what is held of the levels below i
+pub record Decoding (read : Reader) (page work held changes erased : List (List ℕ)) (sum i : ℕ) : Type 0 where
+  pub within : i ≤ 4
+  pub soft : SoftColumns work
+  pub long-held : length held ≡ 4
+  pub long-changes : length changes ≡ 4
+  pub long-erased : length erased ≡ 4
+  pub levels : List Level
+  pub so-far : run short shortOuter read page i ≡ going work levels sum
+  pub rows-so : take i held ≡ map (λ l. l .symbols) levels
+  pub changes-so : take i changes ≡ changedFlags levels
+  pub erased-so : take i erased ≡ erasedFlags levels
+  pub words : (k : ℕ) → k < i → RowWord (getD held k [])
+  pub changes-wide : (k : ℕ) → k < i → length (getD changes k []) ≡ 63
+  pub erased-wide : (k : ℕ) → k < i → length (getD erased k []) ≡ 63
+  pub few : sum ≤ 126000 * i
+
+held-more : {A B : Type 0} (f : A → B) (xs : List B) (ls : List A) (i : ℕ) (v : B) (l : A) → i < length xs → take i xs ≡ map f ls → v ≡ f l
+    → take (i + 1) (set xs i v) ≡ map f (ls ++ (l ∷ []))
+held-more f xs ls i v l h e w =
+    ap (λ (k : ℕ). take k (set xs i v)) (add-one i) ∙ take-suc-set xs i v h ∙ ap₂ (λ (t : List _) (x : _). t ++ (x ∷ [])) e w ∙ sym (map-append f ls (l ∷ []))
+
+each-more : (P : List ℕ → Type 0) (xs : List (List ℕ)) (i : ℕ) (v : List ℕ) → i < length xs → ((k : ℕ) → k < i → P (getD xs k [])) → P v → (k : ℕ) → k < i + 1 → P (getD (set xs i v) k [])
+each-more P xs i v h each w k l =
+    ⊎-elim
+    (λ e. let z : k ≡ i = omega arith in subst⁻¹ (λ (t : ℕ). P (getD (set xs i v) t [])) z (subst⁻¹ P (getD-set-same xs i v [] h) w))
+    (λ u. let z : k < i = omega arith in subst⁻¹ P (getD-set-other xs i k v [] (λ y. lt-irrefl i (subst (λ (t : ℕ). t < i) y z))) (each k z))
+    (eq-or-lt-of-le l)
+
+-- a run that has stopped stays so
+stays : (read : Reader) (page : List (List ℕ)) (i l : ℕ) → run short shortOuter read page i ≡ stopped l → (k : ℕ) → run short shortOuter read page (i + k) ≡ stopped l
+unfolding run onward
+stays read page i l e zero = let z : i + 0 ≡ i = omega arith in ap (run short shortOuter read page) z ∙ e
+stays read page i l e (suc k) =
+    let z : i + suc k ≡ suc (i + k) = omega arith in
+    ap (run short shortOuter read page) z ∙ ap (onward short shortOuter read (i + k)) (stays read page i l e k)
+
+module _ (read : Reader) (page work held changes erased : List (List ℕ)) (sum i : ℕ) (f : Decoding read page work held changes erased sum i) (h : i < 4) (out : LevelOut)
+    (after : List (List ℕ)) (done : LevelDone read i work out after) where
+  onwards : (o : RowAnswer) → decodedRow short shortOuter i (map (read i) work) ≡ o → run short shortOuter read page (suc i) ≡ settle short shortOuter i work (map (read i) work) (f .levels) sum o
+  unfolding run onward
+  onwards o e = ap (onward short shortOuter read i) (f .so-far) ∙ ap (settle short shortOuter i work (map (read i) work) (f .levels) sum) e
+
+  row-is-word : (r : List ℕ) → decodedRow short shortOuter i (map (read i) work) ≡ row r → RowWord r
+  unfolding decodedRow
+  row-is-word r e =
+      let rs = map (read i) work in
+      let long : length rs ≡ 63 = length-map work (read i) ∙ f .soft .many in
+      outer-laws .given i (symbols short i rs) (marks rs) r h (length-map rs (symbol short i) ∙ long) (length-map rs mark ∙ long) e .0 .word
+
+  wide : (r : List ℕ) → length r ≡ 63 → length (map flag (changed (symbols short i (map (read i) work)) (marks (map (read i) work)) r)) ≡ 63
+  wide r e =
+      let rs = map (read i) work in
+      let long : length rs ≡ 63 = length-map work (read i) ∙ f .soft .many in
+      let long-symbols : length (symbols short i rs) ≡ 63 = length-map rs (symbol short i) ∙ long in
+      length-map (changed (symbols short i rs) (marks rs) r) flag ∙ changed-length (symbols short i rs) (marks rs) r (length-map rs mark ∙ long ∙ sym long-symbols) (e ∙ sym long-symbols) ∙ long-symbols
+
+  pub decoding-more : out .settled ≡ true → out .count ≤ 126000 → SoftColumns after
+      → Decoding read page after (set held i (out .row)) (set changes i (out .changed)) (set erased i (out .erased)) (sum + out .count) (i + 1)
+  unfolding LevelDone level settle
+  decoding-more ok few soft = go (decodedRow short shortOuter i (map (read i) work)) refl done
+    where
+      go : (o : RowAnswer) → decodedRow short shortOuter i (map (read i) work) ≡ o → Ended o i (map (read i) work) work out after
+          → Decoding read page after (set held i (out .row)) (set changes i (out .changed)) (set erased i (out .erased)) (sum + out .count) (i + 1)
+      go none e d = absurd (true≢false (sym ok ∙ d))
+      go (row r) e d =
+          let l = level short i (map (read i) work) r in
+          record {
+            within = omega arith;
+            soft = soft;
+            long-held = length-set held i (out .row) ∙ f .long-held;
+            long-changes = length-set changes i (out .changed) ∙ f .long-changes;
+            long-erased = length-set erased i (out .erased) ∙ f .long-erased;
+            levels = f .levels ++ (l ∷ []);
+            so-far =
+                ap (run short shortOuter read page) (add-one i) ∙ onwards (row r) e
+                ∙ ap₂ (λ (cs : List (List ℕ)) (n : ℕ). going cs (f .levels ++ (l ∷ [])) (sum + n)) (sym (d .5)) (sym (d .4));
+            rows-so = held-more (λ x. x .symbols) held (f .levels) i (out .row) l (omega (arith, f .long-held)) (f .rows-so) (d .1);
+            changes-so = held-more (λ x. map flag (x .changed)) changes (f .levels) i (out .changed) l (omega (arith, f .long-changes)) (f .changes-so) (d .2);
+            erased-so = held-more (λ x. map flag (x .erased)) erased (f .levels) i (out .erased) l (omega (arith, f .long-erased)) (f .erased-so) (d .3);
+            words = each-more RowWord held i (out .row) (omega (arith, f .long-held)) (f .words) (subst⁻¹ RowWord (d .1) (row-is-word r e));
+            changes-wide = each-more (λ s. length s ≡ 63) changes i (out .changed) (omega (arith, f .long-changes)) (f .changes-wide) (ap length (d .2) ∙ wide r (row-is-word r e .long));
+            erased-wide = each-more (λ s. length s ≡ 63) erased i (out .erased) (omega (arith, f .long-erased)) (f .erased-wide) (ap length (d .3) ∙ length-map (marks (map (read i) work)) flag ∙ length-map (map (read i) work) mark ∙ length-map work (read i) ∙ f .soft .many);
+            few = omega (arith, f .few, few);
+          }
+
+  stop : out .settled ≡ false → run short shortOuter read page (suc i) ≡ stopped i
+  unfolding LevelDone settle
+  stop z = go (decodedRow short shortOuter i (map (read i) work)) refl done
+    where
+      go : (o : RowAnswer) → decodedRow short shortOuter i (map (read i) work) ≡ o → Ended o i (map (read i) work) work out after → run short shortOuter read page (suc i) ≡ stopped i
+      go none e d = onwards none e
+      go (row r) e d = absurd (true≢false (sym (d .0) ∙ z))
+
+  pub decoding-refused : out .settled ≡ false → (held′ changes′ erased′ : List (List ℕ)) → ColumnsDone read page (Refused i) held′ changes′ erased′
+  unfolding ColumnsDone decoded outcome
+  decoding-refused z held′ changes′ erased′ =
+      let k : suc i + (3 - i) ≡ 4 = omega arith in
+      let e : run short shortOuter read page 4 ≡ stopped i = sym (ap (run short shortOuter read page) k) ∙ stays read page (suc i) i (stop z) (3 - i) in
+      subst⁻¹ (λ (x : State). Ends (outcome x) (Refused i) held′ changes′ erased′) e refl
+
+-- four words of symbols are rows
+pub held-rows : (held : List (List ℕ)) → length held ≡ 4 → ((k : ℕ) → k < 4 → RowWord (getD held k [])) → Rows held
+held-rows held e words =
+    record {
+      four = e;
+      long = λ i h. words i h .long;
+      small = λ i j. ⊎-elim (λ h. words i h .small j) (λ h. subst⁻¹ (λ (t : List ℕ). getD t j 0 < 64) (List·getD-eq-default held [] {n = i} (omega (arith, e, h))) (lit< tt)) (lt-or-le i 4);
+    }
+
+pub decoding-answered : (read : Reader) (page work held changes erased : List (List ℕ)) (sum i : ℕ) → Decoding read page work held changes erased sum i → 4 ≤ i
+    → ColumnsDone read page (Answered sum) held changes erased
+unfolding ColumnsDone decoded outcome rows
+decoding-answered read page work held changes erased sum i f h =
+    let four : i ≡ 4 = omega (arith, f .within, h) in
+    subst⁻¹ (λ (x : State). Ends (outcome x) (Answered sum) held changes erased) (ap (run short shortOuter read page) (sym four) ∙ f .so-far) (
+      refl,
+      sym (take-all i held (omega (arith, f .long-held))) ∙ f .rows-so,
+      sym (take-all i changes (omega (arith, f .long-changes))) ∙ f .changes-so,
+      sym (take-all i erased (omega (arith, f .long-erased))) ∙ f .erased-so,
+      held-rows held (f .long-held) (λ k l. f .words k (omega (arith, four, l))),
+      (f .long-changes, λ k l. f .changes-wide k (omega (arith, four, l))),
+      (f .long-erased, λ k l. f .erased-wide k (omega (arith, four, l))),
+    )
+
+pub decoding-none : (read : Reader) (page held changes erased : List (List ℕ)) → SoftColumns page → length held ≡ 4 → length changes ≡ 4 → length erased ≡ 4
+    → Decoding read page page held changes erased 0 0
+unfolding run
+decoding-none read page held changes erased s a b c =
+    record {
+      within = omega arith;
+      soft = s;
+      long-held = a;
+      long-changes = b;
+      long-erased = c;
+      levels = [];
+      so-far = refl;
+      rows-so = refl;
+      changes-so = refl;
+      erased-so = refl;
+      words = λ k l. absurd (not-suc-le-zero l);
+      changes-wide = λ k l. absurd (not-suc-le-zero l);
+      erased-wide = λ k l. absurd (not-suc-le-zero l);
+      few = omega arith;
+    }

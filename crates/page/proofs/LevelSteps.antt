@@ -1,0 +1,106 @@
+-- One level put together: what is read, the row, the changed columns, the words taken off. Assumes nothing.
+use mathlib.Core.Bool.{Bool, true, false, true≢false}
+use mathlib.Core.List.{List, map}
+use mathlib.Core.Logic.{⊎-elim}
+use mathlib.Core.Path.{_≡_, refl, sym, ap, ap₂, _∙_, subst, subst⁻¹}
+use Prim.Native.Nat.{ℕ, _<_}
+use lib.Dec.{lit<}
+use lib.ListN.{length, length-map, getD, List·getD-eq-default}
+use Rattle.poly.proofs.Sum.{lt-or-le}
+use Rattle.column.specs.Shape.{short}
+use Rattle.search.specs.Values.{values}
+use Rattle.search.specs.Demand.{Search as Kind}
+use Rattle.search.proofs.Short.{searchable}
+use Rattle.outer.specs.Search.{Answer, Found, NoneInReach}
+use Rattle.outer.specs.Row.{outerAnswer, wordOf, isFound}
+use Rattle.outer.specs.Row
+use Rattle.page.specs.Lists.{All}
+use Rattle.page.specs.Format.{shortRoots}
+use Rattle.page.specs.SoftPage.{Soft}
+use Rattle.page.specs.Outer.{RowAnswer, row, none}
+use Rattle.page.specs.Decode.{Reading, symbol, symbols, mark, marks, changed, rowOff, decodedRow}
+use Rattle.page.specs.Readers.{shortReader}
+use Rattle.page.specs.Flags.{flag, isOne}
+use Rattle.page.specs.Arrays.{SoftColumns}
+use Rattle.page.specs.Steps.{RowRead}
+use Rattle.page.specs.OuterCode.{asRow, shortOuter, RowWord}
+use Rattle.page.specs.Levels.{Ended}
+use Rattle.page.specs.declared.levels.LevelOut.{LevelOut}
+use Rattle.page.proofs.Lists.{all-at}
+use Rattle.page.proofs.Columns.{row-off-length, row-off-all}
+use Rattle.page.proofs.TakingOff.{off-length, column-stays-soft}
+use Rattle.page.proofs.Searches.{symbols-in-range}
+use Rattle.page.proofs.OuterJoint.{flags-back, outer-laws}
+
+-- a level's symbols and flags are as many as its columns
+pub read-long : (i : ℕ) (rs : List Reading) (xs ms : List ℕ) (n : ℕ) → RowRead i rs xs ms n → length rs ≡ 63 → (length xs ≡ 63) × (length ms ≡ 63)
+read-long i rs xs ms n read e = (
+  ap length (read .symbols-are) ∙ length-map rs (symbol short i) ∙ e,
+  ap length (read .marks-are) ∙ length-map (marks rs) flag ∙ length-map rs mark ∙ e,
+)
+
+-- symbols, and 0 behind them
+pub all-small : (xs : List ℕ) → All (λ x. x < 64) xs → (j : ℕ) → getD xs j 0 < 64
+all-small xs h j =
+    ⊎-elim (λ l. all-at (λ x. x < 64) xs j 0 h l) (λ l. subst⁻¹ (λ (x : ℕ). x < 64) (List·getD-eq-default xs 0 {n = j} l) (lit< tt)) (lt-or-le j (length xs))
+
+-- they are symbols
+pub read-small : (kind : Kind) (limit i : ℕ) → i < 4 → (work : List (List ℕ)) (xs ms : List ℕ) (n : ℕ) → RowRead i (map (shortReader kind limit i) work) xs ms n → (j : ℕ) → getD xs j 0 < 64
+read-small kind limit i h work xs ms n read =
+    subst⁻¹ (λ (t : List ℕ). (j : ℕ) → getD t j 0 < 64) (read .symbols-are) (all-small (symbols short i (map (shortReader kind limit i) work)) (symbols-in-range short i (searchable i h) (λ k. values) limit kind work))
+
+-- taking a row's words off keeps columns soft
+pub soft-off : (i : ℕ) (r : List ℕ) (work after : List (List ℕ)) → length r ≡ 63 → SoftColumns work → after ≡ rowOff short i r work → SoftColumns after
+soft-off i r work after long s e =
+    subst⁻¹ SoftColumns e
+    (record {
+      many = row-off-length short i r work (long ∙ sym (s .many)) ∙ s .many;
+      soft = row-off-all short (λ c. (length c ≡ 30) × Soft c) (λ w c h. (off-length w c ∙ h .0, column-stays-soft w c (h .1))) i r work (s .soft);
+    })
+
+module _ (i : ℕ) (h : i < 4) (rs : List Reading) (long : length rs ≡ 63) (xs ms : List ℕ) (n : ℕ) (read : RowRead i rs xs ms n) (t : ℕ) (et : t ≡ shortRoots i) (settled : Bool) (old new : List ℕ)
+    (given : Row.Decoded (outerAnswer 6 67 63 t xs ms) settled old new) where
+  -- the row of a level is the outer code's answer on what was read
+  row-is : decodedRow short shortOuter i rs ≡ asRow (outerAnswer 6 67 63 t xs ms)
+  unfolding decodedRow shortOuter
+  row-is =
+      ap₂ (λ (x m : List ℕ). asRow (outerAnswer 6 67 63 (shortRoots i) x m)) (sym (read .symbols-are)) (sym (read .marks-are))
+      ∙ ap (λ (k : ℕ). asRow (outerAnswer 6 67 63 k xs ms)) (sym et)
+
+  pub no-row : settled ≡ false → decodedRow short shortOuter i rs ≡ none
+  unfolding asRow isFound
+  no-row e = row-is ∙ go (outerAnswer 6 67 63 t xs ms) (sym e ∙ given .told)
+    where
+      go : (a : Answer) → false ≡ isFound a → asRow a ≡ none
+      go (Found c) f = absurd (true≢false (sym f))
+      go NoneInReach f = refl
+
+  pub is-row : settled ≡ true → decodedRow short shortOuter i rs ≡ row new
+  unfolding asRow isFound wordOf
+  is-row e = row-is ∙ go (outerAnswer 6 67 63 t xs ms) (sym e ∙ given .told) (given .written)
+    where
+      go : (a : Answer) → true ≡ isFound a → new ≡ wordOf old a → asRow a ≡ row new
+      go (Found c) f w = ap row (sym w)
+      go NoneInReach f w = absurd (true≢false f)
+
+  -- it is a word of 63 symbols
+  pub row-is-a-word : settled ≡ true → RowWord new
+  unfolding decodedRow
+  row-is-a-word e =
+      outer-laws .given i (symbols short i rs) (marks rs) new h (length-map rs (symbol short i) ∙ long) (length-map rs mark ∙ long) (is-row e) .0 .word
+
+  -- a level with no row, and one with a row
+  pub level-refused : settled ≡ false → (work after : List (List ℕ)) (out : LevelOut) → out .settled ≡ false → Ended (decodedRow short shortOuter i rs) i rs work out after
+  level-refused e work after out f = subst⁻¹ (λ (o : RowAnswer). Ended o i rs work out after) (no-row e) f
+
+  pub level-settled : settled ≡ true → (work after : List (List ℕ)) (out : LevelOut) → out .settled ≡ true → out .row ≡ new → out .changed ≡ map flag (changed xs (map isOne ms) new) → out .erased ≡ ms
+      → out .count ≡ n → after ≡ rowOff short i new work → Ended (decodedRow short shortOuter i rs) i rs work out after
+  level-settled e work after out e0 e1 e2 e3 e4 e5 =
+      subst⁻¹ (λ (o : RowAnswer). Ended o i rs work out after) (is-row e) (
+        e0,
+        e1,
+        e2 ∙ ap₂ (λ (x : List ℕ) (m : List Bool). map flag (changed x m new)) (read .symbols-are) (ap (map isOne) (read .marks-are) ∙ flags-back (marks rs)),
+        e3 ∙ read .marks-are,
+        e4 ∙ read .steps-are,
+        e5,
+      )

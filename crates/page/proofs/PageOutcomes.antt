@@ -1,0 +1,123 @@
+-- A page's outcome from what its levels left. Assumes nothing.
+use mathlib.Core.Bool.{Bool}
+use mathlib.Core.List.{List, [], _∷_, map}
+use mathlib.Core.Path.{_≡_, refl, sym, ap, ap₂, _∙_, subst⁻¹}
+use Prim.Native.Nat.{ℕ, zero, suc, _+_, _≤_, _<_}
+use native.Mathlib.Omega.{arith}
+use lib.ListN.{length, length-append, getD, take, drop, take-append-drop}
+use lib.Seq.{length-take-le}
+use Rattle.column.specs.Shape.{short}
+use Rattle.page.specs.Lists.{All, total}
+use Rattle.page.specs.Format.{shortPage, dataBefore, dataCount}
+use Rattle.page.specs.SoftPage.{Soft, softColumns}
+use Rattle.page.specs.Data.{dataBytes}
+use Rattle.page.specs.Decode.{Reader, Level, rows, Decoded, answered, refused, decoded}
+use Rattle.page.specs.Written.{rowsData, bytesOfRows}
+use Rattle.page.specs.Flags.{flag, isOne}
+use Rattle.page.specs.Arrays.{SoftColumns, Rows, FourSets}
+use Rattle.page.specs.OuterCode.{shortOuter}
+use Rattle.page.specs.Levels.{changedFlags, erasedFlags, Ends, ColumnsDone}
+use Rattle.page.specs.Outcomes.{outcomeOf, dataAfter}
+use Rattle.page.specs.declared.levels.ColumnsOutcome.{ColumnsOutcome}
+use Rattle.page.specs.declared.levels.ColumnsOutcome.the-variants.{Answered, Refused}
+use Rattle.page.specs.declared.pages.PageOutcome.{PageOutcome}
+use Rattle.page.proofs.Lists.{all-append, all-of-append}
+use Rattle.page.proofs.SoftPages.{as-many-columns, columns-are-soft}
+use Rattle.page.proofs.Short.{short-page-numbers}
+use Rattle.page.proofs.OuterJoint.{flags-back}
+use Rattle.page.proofs.LevelSteps.{all-small}
+
+-- the columns of a soft page, as the code asks for them
+pub soft-columns : (soft : List ℕ) (columns : List (List ℕ)) → length soft ≡ 1890 → Soft soft → columns ≡ softColumns shortPage soft → SoftColumns columns
+soft-columns soft columns long h e =
+    subst⁻¹ SoftColumns e (record { many = as-many-columns shortPage soft; soft = columns-are-soft shortPage soft long h })
+
+-- what the levels left of an answer
+pub record AnsweredBy (d : Decoded) (n : ℕ) (held changes erased : List (List ℕ)) : Type 0 where
+  pub levels : List Level
+  pub is : d ≡ answered levels n
+  pub rows-are : held ≡ rows levels
+  pub changes-are : changes ≡ changedFlags levels
+  pub erased-are : erased ≡ erasedFlags levels
+  pub good : Rows held
+  pub changes-wide : FourSets changes
+  pub erased-wide : FourSets erased
+
+module _ (read : Reader) (page held changes erased : List (List ℕ)) (r : ColumnsOutcome) (done : ColumnsDone read page r held changes erased) where
+  pub is-answered : (n : ℕ) → r ≡ Answered n → AnsweredBy (decoded short shortOuter read page) n held changes erased
+  unfolding ColumnsDone
+  is-answered n e = go (decoded short shortOuter read page) refl done
+    where
+      go : (d : Decoded) → decoded short shortOuter read page ≡ d → Ends d r held changes erased → AnsweredBy (decoded short shortOuter read page) n held changes erased
+      go (answered ls m) ed h =
+          let same : m ≡ n = cc (sym (h .0) ∙ e) in
+          record {
+            levels = ls;
+            is = ed ∙ ap (answered ls) same;
+            rows-are = h .1;
+            changes-are = h .2;
+            erased-are = h .3;
+            good = h .4;
+            changes-wide = h .5;
+            erased-wide = h .6;
+          }
+      go (refused l) ed h = let z : Refused l ≡ Answered n = sym h ∙ e in let y : _≡_ {A = ℕ} 0 1 = cc z in absurd (omega arith)
+
+  pub is-refused : (l : ℕ) → r ≡ Refused l → decoded short shortOuter read page ≡ refused l
+  unfolding ColumnsDone
+  is-refused l e = go (decoded short shortOuter read page) refl done
+    where
+      go : (d : Decoded) → decoded short shortOuter read page ≡ d → Ends d r held changes erased → decoded short shortOuter read page ≡ refused l
+      go (answered ls m) ed h = let z : Answered m ≡ Refused l = sym (h .0) ∙ e in let y : _≡_ {A = ℕ} 0 1 = cc z in absurd (omega arith)
+      go (refused k) ed h = let same : k ≡ l = cc (sym h ∙ e) in ed ∙ ap refused same
+
+-- the size of each set, read from the flags
+pub totals-are : (f : Level → List Bool) (ls : List Level) → map (λ (s : List ℕ). total (map isOne s)) (map (λ l. map flag (f l)) ls) ≡ map (λ l. total (f l)) ls
+totals-are f [] = refl
+totals-are f (l ∷ ls) = ap₂ (λ (x : ℕ) (t : List ℕ). x ∷ t) (ap total (flags-back (f l))) (totals-are f ls)
+
+-- the data in front of rows: as many as they should be, and symbols
+rows-data-long : (held : List (List ℕ)) → Rows held → (n : ℕ) → n ≤ 4 → length (rowsData shortPage held n) ≡ dataBefore shortPage n
+unfolding rowsData dataBefore
+rows-data-long held good zero h = refl
+rows-data-long held good (suc n) h =
+    length-append (rowsData shortPage held n) (take (dataCount shortPage n) (getD held n []))
+    ∙ ap₂ _+_ (rows-data-long held good n (omega arith)) (length-take-le (dataCount shortPage n) (getD held n []) (omega (arith, good .long n (omega arith))))
+
+pub rows-data-is-200 : (held : List (List ℕ)) (symbols : List ℕ) → Rows held → symbols ≡ rowsData shortPage held 4 → length symbols ≡ 200
+rows-data-is-200 held symbols good e = ap length e ∙ rows-data-long held good 4 (omega arith) ∙ short-page-numbers .5
+
+all-by-index : (xs : List ℕ) → ((j : ℕ) → getD xs j 0 < 64) → All (λ x. x < 64) xs
+all-by-index [] h = tt
+all-by-index (x ∷ xs) h = (h 0, all-by-index xs (λ j. h (suc j)))
+
+rows-data-below : (held : List (List ℕ)) → Rows held → (n : ℕ) → All (λ x. x < 64) (rowsData shortPage held n)
+unfolding rowsData
+rows-data-below held good zero = tt
+rows-data-below held good (suc n) =
+    let whole : All (λ x. x < 64) (getD held n []) = all-by-index (getD held n []) (good .small n) in
+    all-append (λ x. x < 64) (rowsData shortPage held n) (take (dataCount shortPage n) (getD held n [])) (rows-data-below held good n)
+    (all-of-append (λ x. x < 64) (take (dataCount shortPage n) (getD held n [])) (drop (dataCount shortPage n) (getD held n []))
+    (subst⁻¹ (All (λ x. x < 64)) (take-append-drop (dataCount shortPage n) (getD held n [])) whole) .0)
+
+pub rows-data-small : (held : List (List ℕ)) (symbols : List ℕ) → Rows held → symbols ≡ rowsData shortPage held 4 → (j : ℕ) → getD symbols j 0 < 64
+rows-data-small held symbols good e = subst⁻¹ (λ (x : List ℕ). (j : ℕ) → getD x j 0 < 64) e (all-small (rowsData shortPage held 4) (rows-data-below held good 4))
+
+-- the outcome and the data of an answer
+module _ (d : Decoded) (n : ℕ) (held changes erased : List (List ℕ)) (a : AnsweredBy d n held changes erased) where
+  pub answered-outcome : (cs es : List ℕ) → cs ≡ map (λ (s : List ℕ). total (map isOne s)) changes → es ≡ map (λ (s : List ℕ). total (map isOne s)) erased
+      → record { number = 0; place = 0; steps = n; changed = cs; erased = es } ≡ outcomeOf d
+  unfolding outcomeOf
+  answered-outcome cs es ec ee =
+      ap₂ (λ (x y : List ℕ). the-outcome x y)
+      (ec ∙ ap (map (λ (s : List ℕ). total (map isOne s))) (a .changes-are) ∙ totals-are (λ l. l .changed) (a .levels))
+      (ee ∙ ap (map (λ (s : List ℕ). total (map isOne s))) (a .erased-are) ∙ totals-are (λ l. l .erased) (a .levels))
+      ∙ ap outcomeOf (sym (a .is))
+    where
+      the-outcome : List ℕ → List ℕ → PageOutcome
+      the-outcome x y = record { number = 0; place = 0; steps = n; changed = x; erased = y }
+
+  pub answered-data : (old symbols new : List ℕ) → symbols ≡ rowsData shortPage held 4 → new ≡ dataBytes shortPage symbols → new ≡ dataAfter old d
+  unfolding dataAfter bytesOfRows
+  answered-data old symbols new es e =
+      e ∙ ap (dataBytes shortPage) (es ∙ ap (λ (x : List (List ℕ)). rowsData shortPage x 4) (a .rows-are)) ∙ ap (dataAfter old) (sym (a .is))

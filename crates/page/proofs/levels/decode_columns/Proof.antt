@@ -1,0 +1,86 @@
+-- `page::levels::decode_columns` meets its contract: the arrays hold what the run has given below the level. Assumes nothing.
+use Prim.Native.Nat.{_-_}
+use Rattle.search.specs.Places.{Room}
+use Rattle.page.specs.Readers.{shortReader}
+use Rattle.page.specs.Steps.{searchOf}
+use Rattle.page.proofs.LevelRuns.{not-so, so, Decoding, decoding-none, decoding-more, decoding-refused, decoding-answered}
+use borrow.Author.Needs.{needs}
+use Rattle.page.proofs.levels.decode_columns.Statement.{statement}
+use Rattle.page.proofs.levels.decode_columns.Tie as tie
+
+abbrev Inv-loop : tie.InvT-loop
+Inv-loop work₀ limit in-supercodes table sums₀ lens₀ bits₀ held₀ changes₀ erased₀ sum₀ level₀ work sums lens bits held changes erased sum level = Decoding (shortReader (searchOf in-supercodes) limit) work₀ work held changes erased sum level × Room sums lens bits
+
+abbrev μ-loop : tie.MeasureT-loop
+μ-loop work₀ limit in-supercodes table sums₀ lens₀ bits₀ held₀ changes₀ erased₀ sum₀ level₀ work sums lens bits held changes erased sum level = 4 - level
+
+loop-holds : tie.Need-loop-holds Inv-loop μ-loop
+loop-holds c = (decoding-none _ _ _ _ _ (c .pre .1) (c .pre .4) (c .pre .5) (c .pre .6), c .pre .3)
+
+decode-level-requires : tie.Need-decode-level-requires Inv-loop μ-loop
+decode-level-requires c κs =
+    let turn = c .before .before .before .before .before in
+    let start = turn .before in
+    (c .before .before .before .before .loop-test .taken, start .pre .0, turn .loop .inv .0 .soft, start .pre .2, turn .loop .inv .1)
+
+returns : tie.Need-returns Inv-loop μ-loop
+returns c =
+    let turn = c .before .before .before .before .before .before .before in
+    decoding-refused _ _ _ _ _ _ _ _ (turn .loop .inv .0) (c .before .before .before .before .before .before .loop-test .taken) _ _ (c .before .decode-level .ensures .0) (not-so _ (c .if1 .taken)) _ _ _
+
+mul-r : tie.Need-mul-r Inv-loop μ-loop
+mul-r c = search needs
+
+element-set-from-r : tie.Need-element-set-from-r Inv-loop μ-loop
+element-set-from-r c = search needs
+
+mul-c : tie.Need-mul-c Inv-loop μ-loop
+mul-c c = search needs
+
+element-set-from-c : tie.Need-element-set-from-c Inv-loop μ-loop
+element-set-from-c c = search needs
+
+mul-e : tie.Need-mul-e Inv-loop μ-loop
+mul-e c = search needs
+
+element-set-from-e : tie.Need-element-set-from-e Inv-loop μ-loop
+element-set-from-e c = search needs
+
+add-sum : tie.Need-add-sum Inv-loop μ-loop
+add-sum c = search needs
+
+add-level : tie.Need-add-level Inv-loop μ-loop
+add-level c = search needs
+
+loop-less : tie.Need-loop-less Inv-loop μ-loop
+loop-less c = search needs
+
+loop-again : tie.Need-loop-again Inv-loop μ-loop
+loop-again c =
+    let turn = c .before .before .before .before .before .before .before .before .before .before .before in
+    let done = c .before .before .before .before .before .decode-level .ensures in
+    (decoding-more _ _ _ _ _ _ _ _ (turn .loop .inv .0) (c .before .before .before .before .before .before .before .before .before .before .loop-test .taken) _ _ (done .0) (so _ (c .before .before .before .before .if1 .left)) (done .1) (done .2), done .3)
+
+returns-2 : tie.Need-returns-2 Inv-loop μ-loop
+returns-2 c = decoding-answered _ _ _ _ _ _ _ _ (c .before .loop .inv .0) (c .loop-test .left)
+
+pub decode-columns-spec : {M : Type 1} → statement M
+decode-columns-spec =
+    tie.close
+    (tie.spec
+    Inv-loop
+    μ-loop
+    loop-holds
+    decode-level-requires
+    returns
+    mul-r
+    element-set-from-r
+    mul-c
+    element-set-from-c
+    mul-e
+    element-set-from-e
+    add-sum
+    add-level
+    loop-less
+    loop-again
+    returns-2)

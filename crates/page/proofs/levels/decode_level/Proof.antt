@@ -1,0 +1,129 @@
+-- `page::levels::decode_level` meets its contract: by what outer decoding gave. Assumes nothing.
+use mathlib.Core.Path.{_≡_, refl, sym, _∙_}
+use Prim.Native.Nat.{_-_}
+use mathlib.Core.List.{map}
+use lib.ListN.{length, length-map}
+use Rattle.page.specs.Readers.{shortReader}
+use Rattle.page.specs.Steps.{searchOf}
+use Rattle.page.specs.Levels.{LevelDone}
+use Rattle.page.proofs.LevelSteps.{read-long, read-small, soft-off, row-is-a-word, level-refused, level-settled}
+use borrow.Author.Needs.{needs}
+use Rattle.page.proofs.levels.decode_level.Statement.{statement}
+use Rattle.page.proofs.levels.decode_level.Tie as tie
+
+read-row-requires : tie.Need-read-row-requires
+read-row-requires c κs = search needs
+
+slice-aggregate-decode : tie.Need-slice-aggregate-decode
+slice-aggregate-decode c =
+    let read = c .before in
+    let start = read .before .before .before .before .before .before .before in
+    let level = start .args .level in
+    let kind = searchOf (start .args .in-supercodes) in
+    let work = start .args .work .now in
+    let long : length (map (shortReader kind (start .args .limit) level) work) ≡ 63 = length-map work (shortReader kind (start .args .limit) level) ∙ start .pre .2 .many in
+    sym (read-long _ _ _ _ _ (read .read-row .ensures .0) long .0)
+
+slice-aggregate-decode-2 : tie.Need-slice-aggregate-decode-2
+slice-aggregate-decode-2 c =
+    let read = c .before .before in
+    let start = read .before .before .before .before .before .before .before in
+    let level = start .args .level in
+    let kind = searchOf (start .args .in-supercodes) in
+    let work = start .args .work .now in
+    let long : length (map (shortReader kind (start .args .limit) level) work) ≡ 63 = length-map work (shortReader kind (start .args .limit) level) ∙ start .pre .2 .many in
+    sym (read-long _ _ _ _ _ (read .read-row .ensures .0) long .1)
+
+roots-requires : tie.Need-roots-requires
+roots-requires c κs = search needs
+
+slice-aggregate-decode-3 : tie.Need-slice-aggregate-decode-3
+slice-aggregate-decode-3 c = search needs
+
+decode-requires : tie.Need-decode-requires
+decode-requires c κs =
+    let read = c .before .before .before .before in
+    let start = read .before .before .before .before .before .before .before in
+    let level = start .args .level in
+    let kind = searchOf (start .args .in-supercodes) in
+    let work = start .args .work .now in
+    let long : length (map (shortReader kind (start .args .limit) level) work) ≡ 63 = length-map work (shortReader kind (start .args .limit) level) ∙ start .pre .2 .many in
+    let longs = read-long _ _ _ _ _ (read .read-row .ensures .0) long in
+    (longs .0, longs .1, refl, read-small kind (start .args .limit) level (start .pre .0) work _ _ _ (read .read-row .ensures .0), c .before .roots .ensures .1)
+
+changed-columns-requires : tie.Need-changed-columns-requires
+changed-columns-requires c κs =
+    let read = c .before .before .before .before .before .before .before .before .before .before in
+    let given = c .before .before .before .before .before in
+    let start = read .before .before .before .before .before .before .before in
+    let level = start .args .level in
+    let kind = searchOf (start .args .in-supercodes) in
+    let work = start .args .work .now in
+    let long : length (map (shortReader kind (start .args .limit) level) work) ≡ 63 = length-map work (shortReader kind (start .args .limit) level) ∙ start .pre .2 .many in
+    let longs = read-long _ _ _ _ _ (read .read-row .ensures .0) long in
+    let word = row-is-a-word level (start .pre .0) _ long _ _ _ (read .read-row .ensures .0) _ (given .before .before .roots .ensures .0) _ _ _ (given .decode .ensures) (c .before .before .before .if1 .taken) in
+    (longs .0, longs .1, word .long)
+
+take-off-requires : tie.Need-take-off-requires
+take-off-requires c κs =
+    let read = c .before .before .before .before .before .before .before .before .before .before .before .before .before in
+    let given = c .before .before .before .before .before .before .before .before in
+    let start = read .before .before .before .before .before .before .before in
+    let level = start .args .level in
+    let kind = searchOf (start .args .in-supercodes) in
+    let work = start .args .work .now in
+    let long : length (map (shortReader kind (start .args .limit) level) work) ≡ 63 = length-map work (shortReader kind (start .args .limit) level) ∙ start .pre .2 .many in
+    let word = row-is-a-word level (start .pre .0) _ long _ _ _ (read .read-row .ensures .0) _ (given .before .before .roots .ensures .0) _ _ _ (given .decode .ensures) (c .before .before .before .before .before .before .if1 .taken) in
+    (start .pre .0, start .pre .2, word .long, word .small)
+
+returns : tie.Need-returns
+unfolding LevelDone
+returns c =
+    let read = c .before .before .before .before .before .before .before .before .before .before .before .before .before .before in
+    let given = c .before .before .before .before .before .before .before .before .before in
+    let taken = c .before .before .before .before .before .before .before .if1 .taken in
+    let start = read .before .before .before .before .before .before .before in
+    let level = start .args .level in
+    let kind = searchOf (start .args .in-supercodes) in
+    let work = start .args .work .now in
+    let long : length (map (shortReader kind (start .args .limit) level) work) ≡ 63 = length-map work (shortReader kind (start .args .limit) level) ∙ start .pre .2 .many in
+    let t = given .before .before .roots .ensures .0 in
+    let word = row-is-a-word level (start .pre .0) _ long _ _ _ (read .read-row .ensures .0) _ t _ _ _ (given .decode .ensures) taken in (
+      level-settled level (start .pre .0) _ long _ _ _ (read .read-row .ensures .0) _ t _ _ _ (given .decode .ensures) taken work _ _ refl refl (c .before .before .before .changed-columns .ensures) refl refl (c .take-off .ensures),
+      read .read-row .ensures .0 .few,
+      soft-off level _ work _ (word .long) (start .pre .2) (c .take-off .ensures),
+      read .read-row .ensures .1,
+    )
+
+returns-2 : tie.Need-returns-2
+unfolding LevelDone
+returns-2 c =
+    let given = c .before .before in
+    let read = given .before .before .before .before .before in
+    let left = c .if1 .left in
+    let start = read .before .before .before .before .before .before .before in
+    let level = start .args .level in
+    let kind = searchOf (start .args .in-supercodes) in
+    let work = start .args .work .now in
+    let long : length (map (shortReader kind (start .args .limit) level) work) ≡ 63 = length-map work (shortReader kind (start .args .limit) level) ∙ start .pre .2 .many in
+    let t = given .before .before .roots .ensures .0 in (
+      level-refused level (start .pre .0) _ long _ _ _ (read .read-row .ensures .0) _ t _ _ _ (given .decode .ensures) left work _ _ refl,
+      read .read-row .ensures .0 .few,
+      start .pre .2,
+      read .read-row .ensures .1,
+    )
+
+pub decode-level-spec : {M : Type 1} → statement M
+decode-level-spec =
+    tie.close
+    (tie.spec
+    read-row-requires
+    slice-aggregate-decode
+    slice-aggregate-decode-2
+    roots-requires
+    slice-aggregate-decode-3
+    decode-requires
+    changed-columns-requires
+    take-off-requires
+    returns
+    returns-2)

@@ -1,0 +1,115 @@
+-- `page::pages::decode_page` meets its contract: by the two cases of what the levels gave. Assumes nothing.
+use mathlib.Core.Path.{refl, sym, ap, _∙_}
+use Prim.Native.Nat.{ℕ, _-_}
+use mathlib.Core.List.{List}
+use Rattle.column.specs.Shape.{short}
+use Rattle.page.specs.Decode.{decoded}
+use Rattle.page.specs.Readers.{shortReader}
+use Rattle.page.specs.Steps.{searchOf}
+use Rattle.page.specs.OuterCode.{shortOuter}
+use Rattle.page.specs.Outcomes.{outcomeOf, dataAfter}
+use Rattle.page.proofs.PageOutcomes.{soft-columns, is-answered, is-refused, rows-data-is-200, rows-data-small, answered-outcome, answered-data}
+use borrow.Author.Needs.{needs}
+use Rattle.page.proofs.pages.decode_page.Statement.{statement}
+use Rattle.page.proofs.pages.decode_page.Tie as tie
+
+load-requires : tie.Need-load-requires
+load-requires c κs = search needs
+
+values-requires : tie.Need-values-requires
+values-requires c κs = search needs
+
+decode-columns-requires : tie.Need-decode-columns-requires
+decode-columns-requires c κs =
+    let start = c .before .before .before .before .before .before .before .before .before .before .before .before .before in
+    (start .pre .2, soft-columns _ _ (start .pre .0) (start .pre .1) (c .before .before .before .before .before .before .before .before .before .load .ensures), c .before .before .before .before .before .before .before .before .values .ensures, record { sums = refl; lens = refl; bits = refl }, refl, refl, refl)
+
+enum-known-outcome : tie.Need-enum-known-outcome
+enum-known-outcome c = search needs
+
+rows-data-requires : tie.Need-rows-data-requires
+rows-data-requires c κs =
+    let left = c .before .before .before .before .before in
+    let start = left .before .before .before .before .before .before .before .before .before .before .before .before .before .before in
+    let read = shortReader (searchOf (start .args .in-supercodes)) (start .args .limit) in
+    let told = c .before .before .before .outcome .given in
+    let answer = is-answered read _ _ _ _ _ (left .decode-columns .ensures) (told .0 .0) (told .1) in
+    (answer .good .four, refl, answer .good .long)
+
+bytes-of-requires : tie.Need-bytes-of-requires
+bytes-of-requires c κs =
+    let left = c .before .before .before .before .before .before .before .before in
+    let start = left .before .before .before .before .before .before .before .before .before .before .before .before .before .before in
+    let read = shortReader (searchOf (start .args .in-supercodes)) (start .args .limit) in
+    let told = c .before .before .before .before .before .before .outcome .given in
+    let answer = is-answered read _ _ _ _ _ (left .decode-columns .ensures) (told .0 .0) (told .1) in
+    let put = c .before .before .rows-data .ensures in
+    (rows-data-is-200 _ _ (answer .good) put, start .pre .3, rows-data-small _ _ (answer .good) put)
+
+totals-requires : tie.Need-totals-requires
+totals-requires c κs =
+    let left = c .before .before .before .before .before .before .before .before .before .before .before .before in
+    let start = left .before .before .before .before .before .before .before .before .before .before .before .before .before .before in
+    let read = shortReader (searchOf (start .args .in-supercodes)) (start .args .limit) in
+    let told = c .before .before .before .before .before .before .before .before .before .before .outcome .given in
+    let answer = is-answered read _ _ _ _ _ (left .decode-columns .ensures) (told .0 .0) (told .1) in
+    answer .changes-wide
+
+totals-requires-2 : tie.Need-totals-requires-2
+totals-requires-2 c κs =
+    let left = c .before .before .before .before .before .before .before .before .before .before .before .before .before .before in
+    let start = left .before .before .before .before .before .before .before .before .before .before .before .before .before .before in
+    let read = shortReader (searchOf (start .args .in-supercodes)) (start .args .limit) in
+    let told = c .before .before .before .before .before .before .before .before .before .before .before .before .outcome .given in
+    let answer = is-answered read _ _ _ _ _ (left .decode-columns .ensures) (told .0 .0) (told .1) in
+    answer .erased-wide
+
+enum-known-outcome-2 : tie.Need-enum-known-outcome-2
+enum-known-outcome-2 c = search needs
+
+same-length : tie.Need-same-length
+same-length c = search needs
+
+returns : tie.Need-returns
+returns c =
+    let left = c .before .before .before .before .before .before .before .before .before .before .before .before .before .before .before in
+    let start = left .before .before .before .before .before .before .before .before .before .before .before .before .before .before in
+    let read = shortReader (searchOf (start .args .in-supercodes)) (start .args .limit) in
+    let told = c .before .before .before .before .before .before .before .before .before .before .before .before .before .outcome .given in
+    let answer = is-answered read _ _ _ _ _ (left .decode-columns .ensures) (told .0 .0) (told .1) in
+    let loaded = left .before .before .before .before .before .before .before .before .before .before .load .ensures in
+    let old = start .args .«data» .now in (
+      answered-outcome _ _ _ _ _ answer _ _ (c .before .before .totals .ensures) (c .totals2 .ensures) ∙ ap (λ (p : List (List ℕ)). outcomeOf (decoded short shortOuter read p)) loaded,
+      answered-data _ _ _ _ _ answer old _ _ (c .before .before .before .before .before .before .before .before .before .rows-data .ensures) (c .before .before .before .before .before .before .bytes-of .ensures) ∙ ap (λ (p : List (List ℕ)). dataAfter old (decoded short shortOuter read p)) loaded,
+    )
+
+returns-2 : tie.Need-returns-2
+unfolding outcomeOf dataAfter
+returns-2 c =
+    let left = c .before .before .before in
+    let start = left .before .before .before .before .before .before .before .before .before .before .before .before .before .before in
+    let read = shortReader (searchOf (start .args .in-supercodes)) (start .args .limit) in
+    let told = c .before .outcome2 .given in
+    let loaded = left .before .before .before .before .before .before .before .before .before .before .load .ensures in
+    let old = start .args .«data» .now in
+    let refusal = sym (is-refused read _ _ _ _ _ (left .decode-columns .ensures) (told .0 .0) (told .1)) in (
+      ap outcomeOf refusal ∙ ap (λ (p : List (List ℕ)). outcomeOf (decoded short shortOuter read p)) loaded,
+      ap (dataAfter old) refusal ∙ ap (λ (p : List (List ℕ)). dataAfter old (decoded short shortOuter read p)) loaded,
+    )
+
+pub decode-page-spec : {M : Type 1} → statement M
+decode-page-spec =
+    tie.close
+    (tie.spec
+    load-requires
+    values-requires
+    decode-columns-requires
+    enum-known-outcome
+    rows-data-requires
+    bytes-of-requires
+    totals-requires
+    totals-requires-2
+    enum-known-outcome-2
+    same-length
+    returns
+    returns-2)

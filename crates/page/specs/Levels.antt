@@ -1,0 +1,41 @@
+-- What a level, and the levels of a page, leave in the code's arrays. Assumes nothing.
+use mathlib.Core.Bool.{true, false}
+use mathlib.Core.List.{List, map}
+use mathlib.Core.Path.{_≡_}
+use Prim.Native.Nat.{ℕ}
+use Rattle.column.specs.Shape.{short}
+use Rattle.page.specs.declared.levels.LevelOut.{LevelOut}
+use Rattle.page.specs.declared.levels.ColumnsOutcome.{ColumnsOutcome}
+use Rattle.page.specs.declared.levels.ColumnsOutcome.the-variants.{Answered, Refused}
+use Rattle.page.specs.Outer.{RowAnswer, row, none}
+use Rattle.page.specs.Decode.{Reading, Reader, symbols, marks, steps, changed, rowOff, decodedRow, Level, rows, Decoded, answered, refused, decoded}
+use Rattle.page.specs.Flags.{flag}
+use Rattle.page.specs.Arrays.{Rows, FourSets}
+use Rattle.page.specs.OuterCode.{shortOuter}
+
+-- what a level leaves, by what outer decoding gives: its outcome, and the columns after it
+abbrev pub Ended : RowAnswer → ℕ → List Reading → List (List ℕ) → LevelOut → List (List ℕ) → Type 0
+Ended none i rs work out after = out .settled ≡ false
+Ended (row r) i rs work out after =
+    (out .settled ≡ true) × (out .row ≡ r) × (out .changed ≡ map flag (changed (symbols short i rs) (marks rs) r)) × (out .erased ≡ map flag (marks rs)) × (out .count ≡ steps rs)
+    × (after ≡ rowOff short i r work)
+
+unfoldable pub LevelDone : Reader → ℕ → List (List ℕ) → LevelOut → List (List ℕ) → Type 0
+LevelDone read i work out after = Ended (decodedRow short shortOuter i (map (read i) work)) i (map (read i) work) work out after
+
+-- the sets of changed and of erased columns of each level, as flags
+abbrev pub changedFlags : List Level → List (List ℕ)
+changedFlags = map (λ l. map flag (l .changed))
+
+abbrev pub erasedFlags : List Level → List (List ℕ)
+erasedFlags = map (λ l. map flag (l .erased))
+
+-- what the levels leave, by what page decoding gives: the outcome, and what is held of each level
+abbrev pub Ends : Decoded → ColumnsOutcome → List (List ℕ) → List (List ℕ) → List (List ℕ) → Type 0
+Ends (answered ls n) r held changes erased =
+    (r ≡ Answered n) × (held ≡ rows ls) × (changes ≡ changedFlags ls) × (erased ≡ erasedFlags ls)
+    × Rows held × FourSets changes × FourSets erased
+Ends (refused l) r held changes erased = r ≡ Refused l
+
+unfoldable pub ColumnsDone : Reader → List (List ℕ) → ColumnsOutcome → List (List ℕ) → List (List ℕ) → List (List ℕ) → Type 0
+ColumnsDone read page r held changes erased = Ends (decoded short shortOuter read page) r held changes erased

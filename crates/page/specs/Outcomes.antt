@@ -1,0 +1,25 @@
+-- The outcome of page decoding as the code gives it, and the data after it. Assumes nothing.
+use mathlib.Core.List.{List, [], _∷_, map}
+use Prim.Native.Nat.{ℕ}
+use Rattle.page.specs.declared.pages.PageOutcome.{PageOutcome}
+use Rattle.page.specs.Lists.{total}
+use Rattle.page.specs.Format.{shortPage}
+use Rattle.page.specs.Decode.{Level, rows, Decoded, answered, refused}
+use Rattle.page.specs.Written.{bytesOfRows}
+
+-- how many columns each level changed, and how many it erased
+abbrev pub changedTotals : List Level → List ℕ
+changedTotals = map (λ l. total (l .changed))
+
+abbrev pub erasedTotals : List Level → List ℕ
+erasedTotals = map (λ l. total (l .erased))
+
+-- number 0 with the steps and the totals; or 01's number 10, "with the level as the place"
+unfoldable pub outcomeOf : Decoded → PageOutcome
+outcomeOf (answered ls n) = record { number = 0; place = 0; steps = n; changed = changedTotals ls; erased = erasedTotals ls }
+outcomeOf (refused l) = record { number = 10; place = l; steps = 0; changed = 0 ∷ 0 ∷ 0 ∷ 0 ∷ []; erased = 0 ∷ 0 ∷ 0 ∷ 0 ∷ [] }
+
+-- the bytes of the answer; after a refusal the old ones
+unfoldable pub dataAfter : List ℕ → Decoded → List ℕ
+dataAfter old (answered ls n) = bytesOfRows shortPage (rows ls)
+dataAfter old (refused l) = old

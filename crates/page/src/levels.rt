@@ -1,0 +1,126 @@
+// Page decoding, level by level, on the columns of a soft page.
+ghost use mathlib.Core.Path.{_≡_};
+ghost use Prim.Native.Nat.{_<_, _≤_};
+ghost use lib.ListN.{length};
+ghost use Rattle.search.specs.Values.{values};
+ghost use Rattle.search.specs.Steps.{tableOf};
+ghost use Rattle.search.specs.Places.{Room};
+ghost use Rattle.page.specs.Readers.{shortReader};
+ghost use Rattle.page.specs.Arrays.{SoftColumns};
+ghost use Rattle.page.specs.Steps.{searchOf};
+ghost use Rattle.page.specs.Levels.{LevelDone, ColumnsDone};
+use crate::data;
+use crate::reading;
+use crate::rows;
+
+// What a level gives: its row, the flags of its changed and erased columns, its steps; or no word was in reach.
+pub(crate) struct LevelOut {
+    row: [u8; 63],
+    changed: [u8; 63],
+    erased: [u8; 63],
+    count: u64,
+    settled: bool,
+}
+
+// The steps of all levels, or the level that was refused.
+pub(crate) enum ColumnsOutcome {
+    Answered(u64),
+    Refused(u64),
+}
+
+// One level: the columns are read, the row decoded, and its level words taken off.
+fn decode_level(
+    work: &mut [[u8; 30]; 63],
+    level: usize,
+    limit: u64,
+    in_supercodes: bool,
+    table: &[i16; 16],
+    sums: &mut [i16; 2002],
+    lens: &mut [u8; 2002],
+    bits: &mut [u64; 2002],
+) -> LevelOut
+    requires { ⌜ (level < 4) × (limit ≤ 2000) × SoftColumns (now work) × (now table ≡ tableOf values) × Room (now sums) (now lens) (now bits) ⌝ }
+    ensures { λ r. ⌜ LevelDone (shortReader (searchOf in_supercodes) limit) level (now (work .entry)) r (now (work .exit)) × (r .count ≤ 126000)
+        × SoftColumns (now (work .exit)) × Room (now (sums .exit)) (now (lens .exit)) (now (bits .exit)) ⌝ }
+{
+    let mut symbols = [0u8; 63];
+    let mut marks = [0u8; 63];
+    let count = reading::read_row(
+        &*work,
+        level,
+        limit,
+        in_supercodes,
+        table,
+        sums,
+        lens,
+        bits,
+        &mut symbols,
+        &mut marks,
+    );
+    let mut row = [0u8; 63];
+    let settled = outer::decode(&symbols, &marks, data::roots(level), &mut row);
+    if settled {
+        let changed = rows::changed_columns(&symbols, &marks, &row);
+        rows::take_off(&mut *work, level, &row);
+        return LevelOut {
+            row: row,
+            changed: changed,
+            erased: marks,
+            count: count,
+            settled: true,
+        };
+    }
+    LevelOut {
+        row: row,
+        changed: marks,
+        erased: marks,
+        count: count,
+        settled: false,
+    }
+}
+
+// The levels of a page, on its columns; what the arrays hold after a refusal is not told.
+pub(crate) fn decode_columns(
+    work: &mut [[u8; 30]; 63],
+    limit: u64,
+    in_supercodes: bool,
+    table: &[i16; 16],
+    sums: &mut [i16; 2002],
+    lens: &mut [u8; 2002],
+    bits: &mut [u64; 2002],
+    held: &mut [[u8; 63]; 4],
+    changes: &mut [[u8; 63]; 4],
+    erased: &mut [[u8; 63]; 4],
+) -> ColumnsOutcome
+    requires { ⌜ (limit ≤ 2000) × SoftColumns (now work) × (now table ≡ tableOf values) × Room (now sums) (now lens) (now bits)
+        × (length (now held) ≡ 4) × (length (now changes) ≡ 4) × (length (now erased) ≡ 4) ⌝ }
+    ensures { λ r. ⌜ ColumnsDone (shortReader (searchOf in_supercodes) limit) (now (work .entry)) r (now (held .exit)) (now (changes .exit)) (now (erased .exit)) ⌝ }
+{
+    let mut sum: u64 = 0;
+    let mut level: usize = 0;
+    while level < 4 {
+        let out = decode_level(
+            &mut *work,
+            level,
+            limit,
+            in_supercodes,
+            table,
+            &mut *sums,
+            &mut *lens,
+            &mut *bits,
+        );
+        let settled = out.settled;
+        if !settled {
+            return ColumnsOutcome::Refused(level as u64);
+        }
+        let r = out.row;
+        held[level] = r;
+        let c = out.changed;
+        changes[level] = c;
+        let e = out.erased;
+        erased[level] = e;
+        sum += out.count;
+        level += 1;
+    }
+    ColumnsOutcome::Answered(sum)
+}

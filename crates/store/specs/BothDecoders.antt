@@ -1,0 +1,13 @@
+-- Demand 3 for pages, of the two calls: what `decode_page` and `decode_page_whole` have in common. Assumes nothing.
+use mathlib.Core.List.{List}
+use mathlib.Core.Path.{_≡_}
+use Prim.Native.Nat.{ℕ, _+_}
+use Rattle.page.specs.declared.pages.PageOutcome.{PageOutcome}
+
+-- the same number, place and totals; and, for an answered page, the step sum of the first is larger by exactly `dead`
+pub record SameButSteps (dead : ℕ) (supercode whole : PageOutcome) : Type 0 where
+  pub number : supercode .number ≡ whole .number
+  pub place : supercode .place ≡ whole .place
+  pub changed : supercode .changed ≡ whole .changed
+  pub erased : supercode .erased ≡ whole .erased
+  pub steps : whole .number ≡ 0 → supercode .steps ≡ whole .steps + dead
