@@ -52,7 +52,7 @@ four-blocks P at0 at1 at2 at3 (suc (suc (suc (suc b)))) h = absurd (omega arith)
 values-in-range : (s : List ℕ) → length s ≡ 1890 → leb 1890 (firstAbove s 7) ≡ true → Values 1890 7 s
 values-in-range s size five = record { size = size; range = λ k h. let all : 1890 ≤ firstAbove s 7 = leb-true _ _ five in below-first s 7 k (omega arith) }
 
-no-value-above : (s : List ℕ) → Values 1890 7 s → leb 1890 (firstAbove s 7) ≡ true
+pub no-value-above : (s : List ℕ) → Values 1890 7 s → leb 1890 (firstAbove s 7) ≡ true
 no-value-above s v =
     let size : length s ≡ 1890 = v .size in
     let all : length s ≤ firstAbove s 7 = none-above s 7 (λ k h. v .range k (omega arith)) in

@@ -8,3 +8,4 @@ pub mod Filled
 pub mod AllInRange
 pub mod DumpAnswers
 pub mod BothDecoders
+pub mod WrittenPages
