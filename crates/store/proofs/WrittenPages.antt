@@ -39,6 +39,7 @@ module _ (soft : List ℕ) (values-soft : Values 1890 7 soft) (limit : ℕ) (som
       → (r : PageOutcome) (new : List ℕ) → PageDecoded s soft limit old r new → (r .number ≡ 0) × (new ≡ bytes)
   written-page-comes-back-from-the-calls s bytes full are-bytes within r new call =
       let back = written-page-comes-back shortOuter shortEncoder ShortCodeword outer-laws s limit bytes full are-bytes soft within in
-      let D = decodedPage s soft limit in
-      (ap (λ (x : PageOutcome). x .number) (call .answer ∙ all-yes refusedPage (outcomeOf D)) ∙ answered-number D (back .0) (back .1) (back .2),
-      call .bytes ∙ all-yes (λ n p. old) (dataAfter old D) ∙ answered-data old D (back .0) (back .1) (back .2) ∙ back .4)
+      let D = decodedPage s soft limit in (
+        ap (λ (x : PageOutcome). x .number) (call .answer ∙ all-yes refusedPage (outcomeOf D)) ∙ answered-number D (back .0) (back .1) (back .2),
+        call .bytes ∙ all-yes (λ n p. old) (dataAfter old D) ∙ answered-data old D (back .0) (back .1) (back .2) ∙ back .4,
+      )
