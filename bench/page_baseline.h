@@ -1,0 +1,16 @@
+/* The C baseline of a whole page. */
+#ifndef PAGE_BASELINE_H
+#define PAGE_BASELINE_H
+#include "baseline.h"
+
+typedef baseline_outcome baseline_search(const uint8_t *soft, const uint32_t *left, const uint32_t *right, int limit);
+
+/* number 0, or 10 with the level as place */
+typedef struct { uint64_t number, place, steps; uint8_t changed[4], erased[4]; } page_outcome;
+
+/* makes the tables; call it first */
+void page_baseline_start(void);
+void page_baseline_encode(const uint8_t *data, uint8_t *page);
+page_outcome page_baseline_decode(baseline_search *search, const uint8_t *soft, int limit, uint8_t *data);
+
+#endif

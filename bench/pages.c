@@ -1,0 +1,74 @@
+/* Pages: the store's coding and decoding (supercode search), questions included, and the C baseline's on the same pages, in one process, in turns; the least
+   of the rounds counts. Every page's bytes, steps, changed and erased columns and refusals are compared. */
+#include "../tests/entries.h"
+#include "inputs.h"
+#include "page_baseline.h"
+#include <stdio.h>
+#include <string.h>
+
+enum { DATA = 150, WRITTEN = 252, SOFT = 1890, PAGES = 100, ROUNDS = 9, LIMIT = 500, WAYS = 3 };
+
+static uint8_t data[PAGES][DATA], soft[PAGES][SOFT], written[2][PAGES][WRITTEN], back[WAYS][PAGES][DATA];
+static page_outcome outcomes[WAYS][PAGES];
+
+static void least(double *best, double from) {
+    double t = seconds() - from;
+    if (t < *best) *best = t;
+}
+
+static void decode(int way, int p) {
+    if (way) {
+        outcomes[way][p] = page_baseline_decode(way == 1 ? baseline_plain : baseline_packed, soft[p], LIMIT, back[way][p]);
+        return;
+    }
+    paged o = entry_decode_page(soft[p], SOFT, LIMIT, back[0][p], DATA);
+    outcomes[0][p] = (page_outcome){.number = o.number, .place = o.place, .steps = o.steps};
+    memcpy(outcomes[0][p].changed, o.changed, sizeof o.changed);
+    memcpy(outcomes[0][p].erased, o.erased, sizeof o.erased);
+}
+
+int main(void) {
+    int differ = 0;
+    page_baseline_start();
+    for (int p = 0; p < PAGES; p++) for (int k = 0; k < DATA; k++) data[p][k] = (uint8_t)(draw() >> 56);
+    double code[2] = {1e9, 1e9};
+    for (int round = 0; round < 10 * ROUNDS; round++) {
+        double t = seconds();
+        for (int p = 0; p < PAGES; p++) entry_encode_page(data[p], DATA, written[0][p], WRITTEN);
+        least(&code[0], t);
+        t = seconds();
+        for (int p = 0; p < PAGES; p++) page_baseline_encode(data[p], written[1][p]);
+        least(&code[1], t);
+    }
+    int wrong = !!memcmp(written[0], written[1], sizeof written[0]);
+    differ |= wrong;
+    printf("page coding, microseconds a page: store | C, ratio\n");
+    printf("%-14s %9.3f | %9.3f %.2f%s\n", "coding", code[0] / PAGES * 1e6, code[1] / PAGES * 1e6, code[0] / code[1], wrong ? "  PAGES DIFFER" : "");
+    printf("page decoding, supercode search, limit %d, microseconds a page: store | C with the plain heap, ratio | with the packed heap, ratio\n", LIMIT);
+    for (int k = 0; k < KINDS; k++) {
+        for (int p = 0; p < PAGES; p++)
+            for (int n = 0; n < SOFT; n++) soft[p][n] = soft_of(written[1][p][n / BITS * 4 + n % BITS / 8] >> (7 - n % BITS % 8) & 1, kinds[k].sigma);
+        double best[WAYS] = {1e9, 1e9, 1e9};
+        memset(back, 0, sizeof back);
+        for (int round = 0; round < ROUNDS; round++)
+            for (int way = 0; way < WAYS; way++) {
+                double t = seconds();
+                for (int p = 0; p < PAGES; p++) decode(way, p);
+                least(&best[way], t);
+            }
+        uint64_t steps = 0;
+        int refused = 0, right = 0;
+        for (int p = 0; p < PAGES; p++) {
+            steps += outcomes[0][p].steps;
+            refused += outcomes[0][p].number != 0;
+            right += !memcmp(back[0][p], data[p], DATA);
+        }
+        wrong = 0;
+        for (int way = 1; way < WAYS; way++) wrong |= memcmp(back[0], back[way], sizeof back[0]) || memcmp(outcomes[0], outcomes[way], sizeof outcomes[0]);
+        differ |= wrong;
+        printf("%-14s %9.3f | %9.3f %.2f | %9.3f %.2f  (of %d pages %d as written, %d refused; %.0f steps a page not refused)%s\n", kinds[k].name, best[0] / PAGES * 1e6,
+               best[1] / PAGES * 1e6, best[0] / best[1], best[2] / PAGES * 1e6, best[0] / best[2], PAGES, right, refused,
+               refused < PAGES ? (double)steps / (PAGES - refused) : 0.0, wrong ? "  ANSWERS DIFFER" : "");
+    }
+    return differ;
+}
