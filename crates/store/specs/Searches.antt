@@ -1,5 +1,4 @@
 -- The answers of the column searches. Assumes nothing.
-use mathlib.Core.Bool.{Bool, true, false}
 use mathlib.Core.List.{List}
 use Prim.Native.Nat.{ℕ}
 use lib.Dec.{eqb, ltb, leb}
@@ -7,7 +6,7 @@ use lib.ListN.{length}
 use Rattle.column.specs.Shape.{short}
 use Rattle.paths.specs.Search.{Outcome, answer, spent}
 use Rattle.search.specs.Values.{values}
-use Rattle.search.specs.Demand.{Search, whole, supercode, trellis}
+use Rattle.search.specs.Demand.{Search, trellis}
 use Rattle.search.specs.Trellis.{searched}
 use Rattle.store.specs.Questions.{ask, firstAbove}
 use Rattle.store.specs.declared.SearchAnswer.{SearchAnswer}
@@ -44,8 +43,3 @@ searchAnswer s soft level limit =
     (ask (leb limit 2000) (Refused 4 0)
     (ask (leb 30 (firstAbove soft 7)) (Refused 5 (firstAbove soft 7))
     (outcomeAnswer (searched (trellis s short values soft level) limit))))))
-
--- the search that a flag of the code names
-abbrev pub searchOf : Bool → Search
-searchOf true = supercode
-searchOf false = whole
