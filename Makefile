@@ -2,9 +2,7 @@
 .PHONY: test run tools listed
 
 test: tools listed
-	@tests/run-vectors
-	@tests/run-vectors tests/libfec
-	@tests/run-vectors tests/known
+	@tests/run-vectors tests/vectors tests/libfec tests/known
 	@rt ci
 
 run: tools

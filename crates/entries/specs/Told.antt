@@ -8,7 +8,7 @@ use mathlib.Core.Path.{_≡_}
 use Prim.Native.Nat.{ℕ}
 use Rattle.store.specs.declared.Outcome.{Outcome}
 use Rattle.store.specs.Outcome as outcomes
-use Rattle.search.specs.Demand.{Search}
+use Rattle.trellis.specs.Demand.{Search}
 use Rattle.page.specs.declared.pages.PageOutcome.{PageOutcome}
 use Rattle.store.specs.Pages.{PageDecoded}
 use Rattle.entries.specs.declared.PageReply.{PageReply}

@@ -1,16 +1,16 @@
 // Test entries for C, thin over the public calls: what tests/run-vectors calls. Each answers with number, place and value, as store's specs/Answer.antt gives them.
 ghost use mathlib.Core.Path.{_≡_};
 ghost use Rattle.store.specs.Columns.{encodeAnswer, levelWordAnswer, reimageAnswer};
-ghost use Rattle.search.specs.Demand.{whole, supercode};
+ghost use Rattle.trellis.specs.Demand.{whole, supercode};
 ghost use Rattle.store.specs.Searches.{searchAnswer};
-ghost use Rattle.outer.specs.Row.{outerAnswer, encodedRow, wordOf};
+ghost use Rattle.reedsolomon.specs.Row.{outerAnswer, encodedRow, wordOf};
 ghost use Rattle.dump.specs.Dump.{dumpOf, softOf};
 ghost use Rattle.store.specs.Rows.{rootsOf, encodeRowAnswer, decodeRowAnswer};
 ghost use Rattle.store.specs.Dumps.{writeAnswer, readAnswer};
 ghost use Rattle.entries.specs.Told.{toldOf, foundOf, replyOf, Replied, pageReplyOf, PageReplied};
-ghost use Rattle.page.specs.Format.{shortPage};
-ghost use Rattle.page.specs.Written.{writtenPage};
-ghost use Rattle.page.specs.OuterCode.{shortEncoder};
+ghost use Rattle.concatenated.specs.Format.{shortPage};
+ghost use Rattle.concatenated.specs.Written.{writtenPage};
+ghost use Rattle.concatenated.specs.OuterCode.{shortEncoder};
 ghost use Rattle.store.specs.Pages.{encodePageAnswer};
 use page::pages::PageOutcome;
 use store::Answer;

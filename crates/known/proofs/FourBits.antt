@@ -8,8 +8,8 @@ use Rattle.paths.specs.Lists.{filter}
 use Rattle.paths.specs.Paths.{Path, same, prefix, shared, paths, extensions}
 use Rattle.paths.specs.Order.{ahead, last-placed, later}
 use Rattle.paths.specs.Dead.{dead-and-ahead}
-use Rattle.search.specs.Values.{branch, reading, doubt}
-use Rattle.search.specs.Order.{number, sum, zeroFirst, before}
+use Rattle.trellis.specs.Values.{branch, reading, doubt}
+use Rattle.trellis.specs.Order.{number, sum, zeroFirst, before}
 use Rattle.known.specs.FourBits.{topRow, lowRow, fits, fourBitWords, wholeWords, topWords, lowWords, beginsSome, fourBitWhole, fourBitSupercode, valuesOf001, softOf001, path001}
 
 pub whole-words-fit-both-rows : filter (λ w. fits topRow w && fits lowRow w) fourBitWords ≡ wholeWords

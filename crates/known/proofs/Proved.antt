@@ -5,18 +5,18 @@ use Rattle.poly.specs.Polynomial.{add, scale, productIn, product, reduced, rema
 use Rattle.field.specs.Element.{mul, power}
 use Rattle.column.specs.Shape.{generator, degree}
 use Rattle.column.specs.Level.{levelWord, highest, columnOf}
-use Rattle.page.specs.Packing.{joined}
-use Rattle.page.specs.Soft.{takenOffBy}
+use Rattle.packing.specs.Packing.{joined}
+use Rattle.concatenated.specs.Soft.{takenOffBy}
 use Rattle.paths.specs.Paths.{same}
 use Rattle.paths.specs.Stack.{insert, push, extend, grow}
 use Rattle.paths.specs.Tree.{is-full}
 use Rattle.paths.specs.Search.{start, take-head, step, run, limited-search}
 use Rattle.paths.specs.Keys.{with-key}
-use Rattle.search.specs.Values.{branch, reading, doubt}
-use Rattle.search.specs.Order.{number, sum, zeroFirst, before}
-use Rattle.search.specs.Keys.{keyBefore}
-use Rattle.search.specs.Demand.{whole, supercode}
-use Rattle.search.proofs.ZeroColumn.{zero-column-in-30-steps, zero-column-spent-at-29}
+use Rattle.trellis.specs.Values.{branch, reading, doubt}
+use Rattle.trellis.specs.Order.{number, sum, zeroFirst, before}
+use Rattle.trellis.specs.Keys.{keyBefore}
+use Rattle.trellis.specs.Demand.{whole, supercode}
+use Rattle.trellis.proofs.ZeroColumn.{zero-column-in-30-steps, zero-column-spent-at-29}
 use Rattle.known.specs.FourBits.{beginsSome}
 use Rattle.known.specs.Known.{cases, AllHold}
 

@@ -8,8 +8,8 @@ use lib.ListN.{length, replicate}
 use Rattle.column.specs.Mask.{parity}
 use Rattle.paths.specs.Paths.{Path}
 use Rattle.paths.specs.Tree.{Tree}
-use Rattle.search.specs.Values.{Values}
-use Rattle.search.specs.Order.{number, before}
+use Rattle.trellis.specs.Values.{Values}
+use Rattle.trellis.specs.Order.{number, before}
 
 -- the rows 1101 and 0111
 abbrev pub topRow : ℕ

@@ -8,13 +8,13 @@ use lib.ListN.{replicate}
 use Rattle.field.specs.Element.{power, α}
 use Rattle.column.specs.Shape.{short}
 use Rattle.column.specs.Level.{columnOf}
-use Rattle.page.specs.Packing.{bytesOf}
-use Rattle.page.specs.Soft.{takenOffBy}
+use Rattle.packing.specs.Packing.{bytesOf}
+use Rattle.concatenated.specs.Soft.{takenOffBy}
 use Rattle.paths.specs.Search.{Outcome, answer, spent}
-use Rattle.search.specs.Values.{values}
-use Rattle.search.specs.Keys.{key, keyBefore}
-use Rattle.search.specs.Demand.{Search, whole, supercode, trellis}
-use Rattle.search.specs.Trellis.{searched}
+use Rattle.trellis.specs.Values.{values}
+use Rattle.trellis.specs.Keys.{key, keyBefore}
+use Rattle.trellis.specs.Demand.{Search, whole, supercode, trellis}
+use Rattle.trellis.specs.Trellis.{searched}
 use Rattle.known.specs.FourBits.{fourBitWhole, fourBitSupercode, valuesOf001, softOf001, noValues, path001}
 
 -- what the definitions give, and what 01 says: a number, a truth, or the outcome of a search

@@ -1,17 +1,16 @@
 // The corrected row, and how far it is from the one received.
-use crate::erasure;
-use crate::locate;
-use crate::root;
-use crate::syndrome;
-use crate::value;
+use locator::erasure;
+use locator::locate;
+use locator::root;
+use syndromes::syndrome;
 ghost use mathlib.Core.Path.{_≡_};
 ghost use Prim.Native.Nat.{_≤_};
 ghost use native.Mathlib.Decide.{ℕ-discrete};
 ghost use lib.Dec.{eqb};
 ghost use lib.ListN.{length};
-ghost use Rattle.outer.specs.Words.{count, errors, wrong as wrongIn};
-ghost use Rattle.outer.specs.Row.{symbol, Symbols, marked};
-ghost use Rattle.outer.specs.Steps.{Padded, HasSyndromes, Suspected, IsCorrection};
+ghost use Rattle.reedsolomon.specs.Words.{count, errors, wrong as wrongIn};
+ghost use Rattle.reedsolomon.specs.Row.{symbol, Symbols, marked};
+ghost use Rattle.reedsolomon.specs.Steps.{Padded, HasSyndromes, Suspected, IsCorrection};
 
 // The marks of the suspects of a row with the syndromes s, of which n columns are erased.
 fn suspected(marks: &[u8], s: [u8; 33], t: usize, n: usize) -> [u8; 64]
@@ -42,9 +41,9 @@ pub(crate) fn corrected(w: [u8; 64], marks: &[u8], s: [u8; 33], t: usize, n: usi
     let f = root::places_of(&flags);
     let k = f.k;
     let xs = f.xs;
-    let g = value::polynomial(&xs, k);
-    let ys = value::all_amounts(&g, &s, k, &xs);
-    let symbols = value::added(w, &flags, &ys);
+    let g = magnitude::polynomial(&xs, k);
+    let ys = magnitude::all_amounts(&g, &s, k, &xs);
+    let symbols = magnitude::added(w, &flags, &ys);
     let syndromes = syndrome::summed(s, &ys, &xs, k, t);
     Row { symbols, syndromes }
 }

@@ -1,19 +1,16 @@
 // The outer code of the short page: 01, "Rows and page". A row is a Reed-Solomon word of 63 symbols over the field of 64 elements.
-// The answers are defined in specs/Row.antt; the theory (specs/, proofs/) holds for every field of characteristic 2.
+// The answers are defined in reedsolomon's specs/Row.antt; the theory there holds for every field of characteristic 2.
 mod correct;
-mod encoder;
-mod erasure;
-mod lists;
-mod locate;
-mod root;
-mod syndrome;
-mod value;
 
 ghost use mathlib.Core.Path.{_≡_};
 ghost use Prim.Native.Nat.{_+_, _≤_};
 ghost use lib.ListN.{length};
-ghost use Rattle.outer.specs.Row.{Symbols, outerAnswer, encodedRow, Decoded};
-ghost use Rattle.outer.specs.Steps.{RowRoots};
+ghost use Rattle.reedsolomon.specs.Row.{Symbols, outerAnswer, encodedRow, Decoded};
+ghost use Rattle.reedsolomon.specs.Steps.{RowRoots};
+use locator::erasure;
+use syndromes::encoder;
+use syndromes::lists;
+use syndromes::syndrome;
 
 // The codeword that has the data in front.
 pub fn encode(data: &[u8], t: usize, out: &mut [u8])

@@ -12,17 +12,17 @@ use lib.ListN.{length, length-set, length-map, getD, take, set, List·getD-eq-de
 use lib.Seq.{take-suc-set, take-all, getD-set-same, getD-set-other}
 use Rattle.poly.proofs.Sum.{lt-or-le}
 use Rattle.column.specs.Shape.{short}
-use Rattle.page.specs.Outer.{RowAnswer, row, none}
-use Rattle.page.specs.Decode.{Reader, symbol, symbols, mark, marks, changed, decodedRow, Level, level, State, going, stopped, settle, onward, run, outcome, decoded, rows}
-use Rattle.page.specs.Flags.{flag}
-use Rattle.page.specs.Arrays.{SoftColumns, Rows}
-use Rattle.page.specs.OuterCode.{shortOuter, RowWord}
+use Rattle.concatenated.specs.Outer.{RowAnswer, row, none}
+use Rattle.concatenated.specs.Decode.{Reader, symbol, symbols, mark, marks, changed, decodedRow, Level, level, State, going, stopped, settle, onward, run, outcome, decoded, rows}
+use Rattle.concatenated.specs.Flags.{flag}
+use Rattle.concatenated.specs.Arrays.{SoftColumns, Rows}
+use Rattle.concatenated.specs.OuterCode.{shortOuter, RowWord}
 use Rattle.page.specs.Levels.{Ended, LevelDone, changedFlags, erasedFlags, Ends, ColumnsDone}
 use Rattle.page.specs.declared.levels.LevelOut.{LevelOut}
 use Rattle.page.specs.declared.levels.ColumnsOutcome.the-variants.{Answered, Refused}
-use Rattle.page.proofs.Lists.{map-append}
-use Rattle.page.proofs.Entries.{changed-length}
-use Rattle.page.proofs.OuterJoint.{outer-laws}
+use Rattle.concatenated.proofs.Lists.{map-append}
+use Rattle.concatenated.proofs.Entries.{changed-length}
+use Rattle.concatenated.proofs.OuterJoint.{outer-laws}
 
 -- tests of what is not so
 pub not-so : (b : Bool) → not b ≡ true → b ≡ false

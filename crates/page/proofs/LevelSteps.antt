@@ -8,29 +8,29 @@ use lib.Dec.{lit<}
 use lib.ListN.{length, length-map, getD, List·getD-eq-default}
 use Rattle.poly.proofs.Sum.{lt-or-le}
 use Rattle.column.specs.Shape.{short}
-use Rattle.search.specs.Values.{values}
-use Rattle.search.specs.Demand.{Search as Kind}
-use Rattle.search.proofs.Short.{searchable}
-use Rattle.outer.specs.Search.{Answer, Found, NoneInReach}
-use Rattle.outer.specs.Row.{outerAnswer, wordOf, isFound}
-use Rattle.outer.specs.Row
-use Rattle.page.specs.Lists.{All}
-use Rattle.page.specs.Format.{shortRoots}
-use Rattle.page.specs.SoftPage.{Soft}
-use Rattle.page.specs.Outer.{RowAnswer, row, none}
-use Rattle.page.specs.Decode.{Reading, symbol, symbols, mark, marks, changed, rowOff, decodedRow}
-use Rattle.page.specs.Readers.{shortReader}
-use Rattle.page.specs.Flags.{flag, isOne}
-use Rattle.page.specs.Arrays.{SoftColumns}
-use Rattle.page.specs.Steps.{RowRead}
-use Rattle.page.specs.OuterCode.{asRow, shortOuter, RowWord}
+use Rattle.trellis.specs.Values.{values}
+use Rattle.trellis.specs.Demand.{Search as Kind}
+use Rattle.trellis.proofs.Short.{searchable}
+use Rattle.reedsolomon.specs.Search.{Answer, Found, NoneInReach}
+use Rattle.reedsolomon.specs.Row.{outerAnswer, wordOf, isFound}
+use Rattle.reedsolomon.specs.Row
+use Rattle.concatenated.specs.Lists.{All}
+use Rattle.concatenated.specs.Format.{shortRoots}
+use Rattle.concatenated.specs.SoftPage.{Soft}
+use Rattle.concatenated.specs.Outer.{RowAnswer, row, none}
+use Rattle.concatenated.specs.Decode.{Reading, symbol, symbols, mark, marks, changed, rowOff, decodedRow}
+use Rattle.concatenated.specs.Readers.{shortReader}
+use Rattle.concatenated.specs.Flags.{flag, isOne}
+use Rattle.concatenated.specs.Arrays.{SoftColumns}
+use Rattle.readings.specs.Steps.{RowRead}
+use Rattle.concatenated.specs.OuterCode.{asRow, shortOuter, RowWord}
 use Rattle.page.specs.Levels.{Ended}
 use Rattle.page.specs.declared.levels.LevelOut.{LevelOut}
-use Rattle.page.proofs.Lists.{all-at}
-use Rattle.page.proofs.Columns.{row-off-length, row-off-all}
-use Rattle.page.proofs.TakingOff.{off-length, column-stays-soft}
-use Rattle.page.proofs.Searches.{symbols-in-range}
-use Rattle.page.proofs.OuterJoint.{flags-back, outer-laws}
+use Rattle.concatenated.proofs.Lists.{all-at}
+use Rattle.concatenated.proofs.Columns.{row-off-length, row-off-all}
+use Rattle.concatenated.proofs.TakingOff.{off-length, column-stays-soft}
+use Rattle.concatenated.proofs.Searches.{symbols-in-range}
+use Rattle.concatenated.proofs.OuterJoint.{flags-back, outer-laws}
 
 -- a level's symbols and flags are as many as its columns
 pub read-long : (i : ℕ) (rs : List Reading) (xs ms : List ℕ) (n : ℕ) → RowRead i rs xs ms n → length rs ≡ 63 → (length xs ≡ 63) × (length ms ≡ 63)

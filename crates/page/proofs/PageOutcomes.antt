@@ -7,24 +7,24 @@ use native.Mathlib.Omega.{arith}
 use lib.ListN.{length, length-append, getD, take, drop, take-append-drop}
 use lib.Seq.{length-take-le}
 use Rattle.column.specs.Shape.{short}
-use Rattle.page.specs.Lists.{All, total}
-use Rattle.page.specs.Format.{shortPage, dataBefore, dataCount}
-use Rattle.page.specs.SoftPage.{Soft, softColumns}
-use Rattle.page.specs.Data.{dataBytes}
-use Rattle.page.specs.Decode.{Reader, Level, rows, Decoded, answered, refused, decoded}
-use Rattle.page.specs.Written.{rowsData, bytesOfRows}
-use Rattle.page.specs.Flags.{flag, isOne}
-use Rattle.page.specs.Arrays.{SoftColumns, Rows, FourSets}
-use Rattle.page.specs.OuterCode.{shortOuter}
+use Rattle.concatenated.specs.Lists.{All, total}
+use Rattle.concatenated.specs.Format.{shortPage, dataBefore, dataCount}
+use Rattle.concatenated.specs.SoftPage.{Soft, softColumns}
+use Rattle.concatenated.specs.Data.{dataBytes}
+use Rattle.concatenated.specs.Decode.{Reader, Level, rows, Decoded, answered, refused, decoded}
+use Rattle.concatenated.specs.Written.{rowsData, bytesOfRows}
+use Rattle.concatenated.specs.Flags.{flag, isOne}
+use Rattle.concatenated.specs.Arrays.{SoftColumns, Rows, FourSets}
+use Rattle.concatenated.specs.OuterCode.{shortOuter}
 use Rattle.page.specs.Levels.{changedFlags, erasedFlags, Ends, ColumnsDone}
 use Rattle.page.specs.Outcomes.{outcomeOf, dataAfter}
 use Rattle.page.specs.declared.levels.ColumnsOutcome.{ColumnsOutcome}
 use Rattle.page.specs.declared.levels.ColumnsOutcome.the-variants.{Answered, Refused}
 use Rattle.page.specs.declared.pages.PageOutcome.{PageOutcome}
-use Rattle.page.proofs.Lists.{all-append, all-of-append}
-use Rattle.page.proofs.SoftPages.{as-many-columns, columns-are-soft}
-use Rattle.page.proofs.Short.{short-page-numbers}
-use Rattle.page.proofs.OuterJoint.{flags-back}
+use Rattle.concatenated.proofs.Lists.{all-append, all-of-append}
+use Rattle.concatenated.proofs.SoftPages.{as-many-columns, columns-are-soft}
+use Rattle.concatenated.proofs.Short.{short-page-numbers}
+use Rattle.concatenated.proofs.OuterJoint.{flags-back}
 use Rattle.page.proofs.LevelSteps.{all-small}
 
 -- the columns of a soft page, as the code asks for them

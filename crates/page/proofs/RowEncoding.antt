@@ -8,18 +8,18 @@ use native.Mathlib.Omega.{arith}
 use lib.Dec.{lit<}
 use lib.ListN.{length, getD, take, drop, List·getD-eq-default}
 use Rattle.poly.proofs.Sum.{lt-or-le}
-use Rattle.outer.specs.Row.{encodedRow}
-use Rattle.page.specs.Format.{shortPage, shortRoots, dataBefore, dataCount}
-use Rattle.page.specs.Data.{dataSymbols}
-use Rattle.page.specs.Written.{rowData, writtenRow, writtenRows}
-use Rattle.page.specs.Arrays.{Rows}
-use Rattle.page.specs.OuterCode.{shortEncoder, RowWord}
-use Rattle.page.proofs.Lists.{listed-length, listed-at}
-use Rattle.page.proofs.Digits.{repacked-length, repacked-below}
-use Rattle.page.proofs.RowData.{row-data-length, row-data-in-range}
-use Rattle.page.proofs.Short.{short-page-numbers}
-use Rattle.page.proofs.DataGroups.{at-most-30-roots}
-use Rattle.page.proofs.OuterJoint.{outer-laws}
+use Rattle.reedsolomon.specs.Row.{encodedRow}
+use Rattle.concatenated.specs.Format.{shortPage, shortRoots, dataBefore, dataCount}
+use Rattle.concatenated.specs.Data.{dataSymbols}
+use Rattle.concatenated.specs.Written.{rowData, writtenRow, writtenRows}
+use Rattle.concatenated.specs.Arrays.{Rows}
+use Rattle.concatenated.specs.OuterCode.{shortEncoder, RowWord}
+use Rattle.concatenated.proofs.Lists.{listed-length, listed-at}
+use Rattle.concatenated.proofs.Digits.{repacked-length, repacked-below}
+use Rattle.concatenated.proofs.RowData.{row-data-length, row-data-in-range}
+use Rattle.concatenated.proofs.Short.{short-page-numbers}
+use Rattle.concatenated.proofs.DataGroups.{at-most-30-roots}
+use Rattle.concatenated.proofs.OuterJoint.{outer-laws}
 use Rattle.page.proofs.LevelRuns.{held-rows}
 
 module _ (bytes : List ℕ) where

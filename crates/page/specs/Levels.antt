@@ -7,11 +7,11 @@ use Rattle.column.specs.Shape.{short}
 use Rattle.page.specs.declared.levels.LevelOut.{LevelOut}
 use Rattle.page.specs.declared.levels.ColumnsOutcome.{ColumnsOutcome}
 use Rattle.page.specs.declared.levels.ColumnsOutcome.the-variants.{Answered, Refused}
-use Rattle.page.specs.Outer.{RowAnswer, row, none}
-use Rattle.page.specs.Decode.{Reading, Reader, symbols, marks, steps, changed, rowOff, decodedRow, Level, rows, Decoded, answered, refused, decoded}
-use Rattle.page.specs.Flags.{flag}
-use Rattle.page.specs.Arrays.{Rows, FourSets}
-use Rattle.page.specs.OuterCode.{shortOuter}
+use Rattle.concatenated.specs.Outer.{RowAnswer, row, none}
+use Rattle.concatenated.specs.Decode.{Reading, Reader, symbols, marks, steps, changed, rowOff, decodedRow, Level, rows, Decoded, answered, refused, decoded}
+use Rattle.concatenated.specs.Flags.{flag}
+use Rattle.concatenated.specs.Arrays.{Rows, FourSets}
+use Rattle.concatenated.specs.OuterCode.{shortOuter}
 
 -- what a level leaves, by what outer decoding gives: its outcome, and the columns after it
 abbrev pub Ended : RowAnswer → ℕ → List Reading → List (List ℕ) → LevelOut → List (List ℕ) → Type 0

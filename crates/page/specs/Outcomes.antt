@@ -2,10 +2,10 @@
 use mathlib.Core.List.{List, [], _∷_, map}
 use Prim.Native.Nat.{ℕ}
 use Rattle.page.specs.declared.pages.PageOutcome.{PageOutcome}
-use Rattle.page.specs.Lists.{total}
-use Rattle.page.specs.Format.{shortPage}
-use Rattle.page.specs.Decode.{Level, rows, Decoded, answered, refused}
-use Rattle.page.specs.Written.{bytesOfRows}
+use Rattle.concatenated.specs.Lists.{total}
+use Rattle.concatenated.specs.Format.{shortPage}
+use Rattle.concatenated.specs.Decode.{Level, rows, Decoded, answered, refused}
+use Rattle.concatenated.specs.Written.{bytesOfRows}
 
 -- how many columns each level changed, and how many it erased
 abbrev pub changedTotals : List Level → List ℕ

@@ -2,16 +2,16 @@
 ghost use mathlib.Core.Path.{_≡_};
 ghost use Prim.Native.Nat.{_<_, _≤_};
 ghost use lib.ListN.{length};
-ghost use Rattle.search.specs.Values.{values};
+ghost use Rattle.trellis.specs.Values.{values};
 ghost use Rattle.search.specs.Steps.{tableOf};
-ghost use Rattle.search.specs.Places.{Room};
-ghost use Rattle.page.specs.Readers.{shortReader};
-ghost use Rattle.page.specs.Arrays.{SoftColumns};
-ghost use Rattle.page.specs.Steps.{searchOf};
+ghost use Rattle.stack.specs.Places.{Room};
+ghost use Rattle.concatenated.specs.Readers.{shortReader};
+ghost use Rattle.concatenated.specs.Arrays.{SoftColumns};
+ghost use Rattle.readings.specs.Steps.{searchOf};
 ghost use Rattle.page.specs.Levels.{LevelDone, ColumnsDone};
-use crate::data;
-use crate::reading;
-use crate::rows;
+use coding::data;
+use readings::reading;
+use readings::rows;
 
 // What a level gives: its row, the flags of its changed and erased columns, its steps; or no word was in reach.
 pub(crate) struct LevelOut {

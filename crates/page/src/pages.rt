@@ -3,20 +3,20 @@ ghost use mathlib.Core.Path.{_≡_};
 ghost use Prim.Native.Nat.{_<_, _≤_};
 ghost use lib.ListN.{length};
 ghost use Rattle.column.specs.Shape.{short};
-ghost use Rattle.page.specs.Format.{shortPage};
-ghost use Rattle.page.specs.SoftPage.{Soft, softColumns};
-ghost use Rattle.page.specs.Decode.{decoded};
-ghost use Rattle.page.specs.Readers.{shortReader};
-ghost use Rattle.page.specs.Written.{writtenPage, writtenRows};
-ghost use Rattle.page.specs.Steps.{searchOf};
-ghost use Rattle.page.specs.OuterCode.{shortOuter, shortEncoder};
+ghost use Rattle.concatenated.specs.Format.{shortPage};
+ghost use Rattle.concatenated.specs.SoftPage.{Soft, softColumns};
+ghost use Rattle.concatenated.specs.Decode.{decoded};
+ghost use Rattle.concatenated.specs.Readers.{shortReader};
+ghost use Rattle.concatenated.specs.Written.{writtenPage, writtenRows};
+ghost use Rattle.readings.specs.Steps.{searchOf};
+ghost use Rattle.concatenated.specs.OuterCode.{shortOuter, shortEncoder};
 ghost use Rattle.page.specs.Outcomes.{outcomeOf, dataAfter};
-use crate::data;
 use crate::levels;
 use crate::levels::ColumnsOutcome;
-use crate::look;
-use crate::totals;
-use crate::writing;
+use coding::data;
+use coding::writing;
+use readings::look;
+use readings::totals;
 
 // What page decoding gives: number 0 with the steps and how many columns each level changed and erased; or number 10 with the level as the place.
 pub struct PageOutcome {

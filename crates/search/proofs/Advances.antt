@@ -20,12 +20,12 @@ use Rattle.paths.specs.Stack.{Nodes, grow}
 use Rattle.heap.specs.Heap.{weigh, Every}
 use Rattle.heap.specs.Holds.{weighList}
 use Rattle.heap.proofs.Lists.{every-kept, out-kept, first-is-head}
-use Rattle.search.specs.Order.{bit}
-use Rattle.search.specs.Keys.{Key, key, keyPasses}
-use Rattle.search.specs.Places.{Upto, Small, Out}
+use Rattle.trellis.specs.Order.{bit}
+use Rattle.trellis.specs.Keys.{Key, key, keyPasses}
+use Rattle.stack.specs.Places.{Upto, Small, Out}
 use Rattle.search.specs.Steps.{Given, Good, Held, tableExtension, tableNodes, Next, Advanced}
-use Rattle.search.proofs.KeyOrder.{key-dec, upto-same, upto-anti, upto-trans}
-use Rattle.search.proofs.Sums.{add-near, near-fits}
+use Rattle.stack.proofs.KeyOrder.{key-dec, upto-same, upto-anti, upto-trans}
+use Rattle.stack.proofs.Sums.{add-near, near-fits}
 use Rattle.search.proofs.NextBit.{check, no-mask, let-in, dead-in, one-in, bit-less}
 use Rattle.search.proofs.Growing.{ordered-grow, weigh-full, weigh-none, weigh-one, weigh-both}
 

@@ -17,10 +17,10 @@ use Rattle.paths.specs.Search.{answer, spent}
 use Rattle.paths.specs.Keys.{run-keys}
 use Rattle.heap.specs.Heap.{weigh}
 use Rattle.heap.specs.Holds.{weighList, Holds}
-use Rattle.search.specs.Values.{Values}
-use Rattle.search.specs.Order.{bit}
-use Rattle.search.specs.Keys.{Key, key, keyBefore, keyExtension, keyPasses, keyNodes, keySearch}
-use Rattle.search.specs.Places.{Upto}
+use Rattle.trellis.specs.Values.{Values}
+use Rattle.trellis.specs.Order.{bit}
+use Rattle.trellis.specs.Keys.{Key, key, keyBefore, keyExtension, keyPasses, keyNodes, keySearch}
+use Rattle.stack.specs.Places.{Upto}
 use Rattle.search.specs.Steps.{TableOf, Given, tableExtension, tableNodes, Advanced, Standing, Going, Answered, Ended, Reached}
 use Rattle.search.specs.Outcomes.{outcomeOf}
 use Rattle.search.specs.declared.Outcome.the-variants.{Found, Spent}

@@ -6,9 +6,9 @@ use mathlib.Core.List.{List, [], _∷_}
 use mathlib.Core.Path.{_≡_, refl, _∙_}
 use Rattle.paths.specs.Stack.{Nodes, insert, push, extend, grow}
 use Rattle.heap.specs.Holds.{weighList, AllAfter, Ordered}
-use Rattle.search.specs.Keys.{Key, keyBefore}
-use Rattle.search.specs.Places.{Upto}
-use Rattle.search.proofs.KeyOrder.{upto-not, upto-trans}
+use Rattle.trellis.specs.Keys.{Key, keyBefore}
+use Rattle.stack.specs.Places.{Upto}
+use Rattle.stack.proofs.KeyOrder.{upto-not, upto-trans}
 
 module _ (E : Bool → Key → Key) (X F : Key → Bool) where
   abbrev N : Nodes Key

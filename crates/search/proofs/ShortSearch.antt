@@ -11,16 +11,16 @@ use Rattle.column.specs.Mask.{maskOf, MasksOf}
 use Rattle.column.proofs.Checks.{mask-odd-or-zero}
 use Rattle.column.proofs.Short as Shape
 use Rattle.paths.specs.Search.{Outcome as OutcomeOf, answer, spent}
-use Rattle.search.specs.Values.{values}
-use Rattle.search.specs.Keys.{Key, keySearch}
-use Rattle.search.specs.Demand.{Search, whole, supercode, trellis}
-use Rattle.search.specs.Trellis.{searched}
+use Rattle.trellis.specs.Values.{values}
+use Rattle.trellis.specs.Keys.{Key, keySearch}
+use Rattle.trellis.specs.Demand.{Search, whole, supercode, trellis}
+use Rattle.trellis.specs.Trellis.{searched}
 use Rattle.search.specs.Steps.{Odd, Given, TableOf, tableOf}
 use Rattle.search.specs.Outcomes.{outcomeOf, codeOutcome, Searchable30, MasksFor}
 use Rattle.search.specs.declared.Outcome.{Outcome}
-use Rattle.search.proofs.Demand.{trellis-sound}
-use Rattle.search.proofs.Keys.{keys-of-whole, keys-of-supercode, by-bits, key-search-is-search}
-use Rattle.search.proofs.Short.{searchable}
+use Rattle.trellis.proofs.Demand.{trellis-sound}
+use Rattle.trellis.proofs.Keys.{keys-of-whole, keys-of-supercode, by-bits, key-search-is-search}
+use Rattle.trellis.proofs.Short.{searchable}
 use Rattle.search.proofs.Tables.{table-of, table-near}
 
 pub given-short : (soft left right : List ℕ) (table : List ℤ) → table ≡ tableOf values → Searchable30 soft left right → Given 30 soft left right table

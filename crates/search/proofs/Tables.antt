@@ -5,8 +5,8 @@ use Prim.Native.Nat.{ℕ, zero, suc, _+_, _*_, _≤_, _<_}
 use native.Mathlib.Omega.{arith}
 use lib.IntN.{pos, natAbs}
 use lib.ListN.{length, getD}
-use Rattle.search.specs.Values.{Values, values, reading, doubt, branch}
-use Rattle.search.specs.Order.{bit}
+use Rattle.trellis.specs.Values.{Values, values, reading, doubt, branch}
+use Rattle.trellis.specs.Order.{bit}
 use Rattle.search.specs.Steps.{TableOf, tableOf}
 
 pub table-of : (vs : Values) → TableOf vs (tableOf vs)

@@ -1,8 +1,2 @@
-pub mod Values
-pub mod Order
-pub mod Trellis
-pub mod Keys
-pub mod Demand
-pub mod Places
 pub mod Steps
 pub mod Outcomes

@@ -6,8 +6,8 @@ use lib.ListN.{length, getD}
 use Rattle.column.specs.Shape.{short, levelCode}
 use Rattle.column.specs.Mask.{MasksOf}
 use Rattle.paths.specs.Search.{Outcome as OutcomeOf, answer, spent}
-use Rattle.search.specs.Keys.{Key}
-use Rattle.search.specs.Demand.{Search, whole, supercode}
+use Rattle.trellis.specs.Keys.{Key}
+use Rattle.trellis.specs.Demand.{Search, whole, supercode}
 use Rattle.search.specs.Steps.{Odd}
 use Rattle.search.specs.declared.Outcome.{Outcome}
 use Rattle.search.specs.declared.Outcome.the-variants.{Found, Spent}

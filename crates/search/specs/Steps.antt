@@ -12,10 +12,10 @@ use Rattle.paths.specs.Search.{answer, spent}
 use Rattle.paths.specs.Keys.{run-keys}
 use Rattle.heap.specs.Heap.{weigh, Every, Heap}
 use Rattle.heap.specs.Holds.{Holds}
-use Rattle.search.specs.Values.{Values, branch}
-use Rattle.search.specs.Order.{bit}
-use Rattle.search.specs.Keys.{Key, key, keyBefore, keyPasses}
-use Rattle.search.specs.Places.{Upto, Out}
+use Rattle.trellis.specs.Values.{Values, branch}
+use Rattle.trellis.specs.Order.{bit}
+use Rattle.trellis.specs.Keys.{Key, key, keyBefore, keyPasses}
+use Rattle.stack.specs.Places.{Upto, Out}
 
 -- a mask that is 0, or has its lowest bit
 abbrev pub Odd : ℕ → Type 0

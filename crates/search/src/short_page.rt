@@ -3,10 +3,10 @@ ghost use Prim.Native.Nat.{ℕ, _<_, _≤_};
 ghost use mathlib.Core.Path.{_≡_};
 ghost use lib.ListN.{length, getD};
 ghost use Rattle.column.specs.Shape.{short};
-ghost use Rattle.search.specs.Values.{values as branchValues};
-ghost use Rattle.search.specs.Demand.{Search, trellis};
-ghost use Rattle.search.specs.Trellis.{searched};
-ghost use Rattle.search.specs.Places.{Room};
+ghost use Rattle.trellis.specs.Values.{values as branchValues};
+ghost use Rattle.trellis.specs.Demand.{Search, trellis};
+ghost use Rattle.trellis.specs.Trellis.{searched};
+ghost use Rattle.stack.specs.Places.{Room};
 ghost use Rattle.search.specs.Steps.{tableOf};
 ghost use Rattle.search.specs.Outcomes.{codeOutcome, Searchable30, MasksFor};
 use crate::Outcome;
@@ -16,22 +16,22 @@ pub fn values() -> [i16; 16]
     ensures { λ r. ⌜ r ≡ tableOf branchValues ⌝ }
 {
     [
-        2,
-        1,
-        -1,
-        -5,
-        -11,
-        -20,
-        -35,
-        -60,
-        -60,
-        -35,
-        -20,
-        -11,
-        -5,
-        -1,
-        1,
-        2,
+        2, // soft 0, bit 0
+        1, // soft 1, bit 0
+        -1, // soft 2, bit 0
+        -5, // soft 3, bit 0
+        -11, // soft 4, bit 0
+        -20, // soft 5, bit 0
+        -35, // soft 6, bit 0
+        -60, // soft 7, bit 0
+        -60, // soft 0, bit 1
+        -35, // soft 1, bit 1
+        -20, // soft 2, bit 1
+        -11, // soft 3, bit 1
+        -5, // soft 4, bit 1
+        -1, // soft 5, bit 1
+        1, // soft 6, bit 1
+        2, // soft 7, bit 1
     ]
 }
 

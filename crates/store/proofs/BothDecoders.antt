@@ -7,16 +7,16 @@ use native.Mathlib.Omega.{arith}
 use lib.Dec.{eqb, leb}
 use lib.ListN.{length}
 use Rattle.column.specs.Shape.{short}
-use Rattle.search.specs.Values.{values}
-use Rattle.search.specs.Demand.{whole, supercode}
-use Rattle.page.specs.Format.{shortPage}
-use Rattle.page.specs.SoftPage.{softColumns}
-use Rattle.page.specs.Decode.{Decoded, answered, refused}
-use Rattle.page.specs.Readers.{Agree, NoneSpent, deadAhead, sumBelow, shortReader}
-use Rattle.page.specs.OuterCode.{shortOuter}
+use Rattle.trellis.specs.Values.{values}
+use Rattle.trellis.specs.Demand.{whole, supercode}
+use Rattle.concatenated.specs.Format.{shortPage}
+use Rattle.concatenated.specs.SoftPage.{softColumns}
+use Rattle.concatenated.specs.Decode.{Decoded, answered, refused}
+use Rattle.concatenated.specs.Readers.{Agree, NoneSpent, deadAhead, sumBelow, shortReader}
+use Rattle.concatenated.specs.OuterCode.{shortOuter}
 use Rattle.page.specs.Outcomes.{outcomeOf, dataAfter}
 use Rattle.page.specs.declared.pages.PageOutcome.{PageOutcome}
-use Rattle.page.proofs.Short.{decoders-agree}
+use Rattle.concatenated.proofs.Short.{decoders-agree}
 use Rattle.store.specs.Questions.{ask, firstAbove}
 use Rattle.store.specs.Pages.{refusedPage, decodedPage, askPage, PageDecoded}
 use Rattle.store.specs.BothDecoders.{SameButSteps}

@@ -6,7 +6,7 @@ use native.Mathlib.Omega.{arith}
 use lib.ListN.{length, getD}
 use Rattle.column.specs.Shape.{short, levelCode}
 use Rattle.paths.specs.Search.{Outcome, answer, spent}
-use Rattle.search.specs.Demand.{Search}
+use Rattle.trellis.specs.Demand.{Search}
 use Rattle.search.specs.Outcomes.{codeOutcome, Searchable30, MasksFor}
 use Rattle.search.specs.declared.Outcome as code
 use Rattle.search.specs.declared.Outcome.the-variants.{Found as CodeFound, Spent as CodeSpent}

@@ -9,9 +9,9 @@ use borrow.Author.Tests.{lt-leb, eqb-true}
 use lib.Dec.{eqb, leb, lit≤}
 use lib.ListN.{length, getD, List·getD-eq-default}
 use Rattle.poly.proofs.Sum.{lt-or-le}
-use Rattle.outer.specs.Row.{Symbols, isFound, wordOf}
-use Rattle.outer.specs.Search.{Answer, Found, NoneInReach}
-use Rattle.outer.specs.Steps.{RowRoots}
+use Rattle.reedsolomon.specs.Row.{Symbols, isFound, wordOf}
+use Rattle.reedsolomon.specs.Search.{Answer, Found, NoneInReach}
+use Rattle.reedsolomon.specs.Steps.{RowRoots}
 use Rattle.store.specs.Questions.{firstAbove}
 use Rattle.store.specs.Rows.{rootsOf, lengthRight}
 use Rattle.store.proofs.FirstAbove.{below-first}

@@ -5,7 +5,7 @@ use Prim.Native.Nat.{ℕ, suc, _≤_}
 use native.Mathlib.Nat.{not-suc-le-zero, le-of-suc-le-suc}
 use lib.Dec.{T, leb, leb→le}
 use lib.ListN.{length}
-use Rattle.page.specs.SoftPage.{Soft}
+use Rattle.concatenated.specs.SoftPage.{Soft}
 use Rattle.store.specs.Questions.{firstAbove}
 
 pub values-are-soft : (s : List ℕ) → length s ≤ firstAbove s 7 → Soft s

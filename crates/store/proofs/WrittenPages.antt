@@ -5,19 +5,19 @@ use Prim.Native.Nat.{ℕ, _≤_}
 use borrow.Author.Tests.{eq-eqb, le-leb}
 use lib.ListN.{length}
 use Rattle.dump.specs.Accepted.{Values}
-use Rattle.search.specs.Demand.{Search}
-use Rattle.page.specs.Format.{shortPage}
-use Rattle.page.specs.SoftPage.{softColumns}
-use Rattle.page.specs.Decode.{Decoded, Level, answered, rows}
-use Rattle.page.specs.Written.{writtenRows, columnsOf, bytesOfRows}
-use Rattle.page.specs.Misread.{WithinReach}
-use Rattle.page.specs.Readers.{shortReader}
-use Rattle.page.specs.OuterCode.{shortOuter, shortEncoder, ShortCodeword}
+use Rattle.trellis.specs.Demand.{Search}
+use Rattle.concatenated.specs.Format.{shortPage}
+use Rattle.concatenated.specs.SoftPage.{softColumns}
+use Rattle.concatenated.specs.Decode.{Decoded, Level, answered, rows}
+use Rattle.concatenated.specs.Written.{writtenRows, columnsOf, bytesOfRows}
+use Rattle.concatenated.specs.Misread.{WithinReach}
+use Rattle.concatenated.specs.Readers.{shortReader}
+use Rattle.concatenated.specs.OuterCode.{shortOuter, shortEncoder, ShortCodeword}
 use Rattle.page.specs.Outcomes.{outcomeOf, dataAfter}
 use Rattle.page.specs.declared.pages.PageOutcome.{PageOutcome}
-use Rattle.page.proofs.Digits.{Below}
-use Rattle.page.proofs.OuterJoint.{outer-laws}
-use Rattle.page.proofs.Short.{written-page-comes-back}
+use Rattle.concatenated.proofs.Digits.{Below}
+use Rattle.concatenated.proofs.OuterJoint.{outer-laws}
+use Rattle.concatenated.proofs.Short.{written-page-comes-back}
 use Rattle.store.specs.Pages.{refusedPage, decodedPage, askPage, PageDecoded}
 use Rattle.store.proofs.DumpAnswers.{no-value-above}
 

@@ -5,12 +5,12 @@ use Prim.Native.Nat.{ℕ}
 use lib.Dec.{eqb, leb}
 use lib.ListN.{length}
 use Rattle.column.specs.Shape.{short}
-use Rattle.search.specs.Demand.{Search}
-use Rattle.page.specs.Format.{shortPage}
-use Rattle.page.specs.SoftPage.{softColumns}
-use Rattle.page.specs.Decode.{Decoded, decoded}
-use Rattle.page.specs.Readers.{shortReader}
-use Rattle.page.specs.OuterCode.{shortOuter}
+use Rattle.trellis.specs.Demand.{Search}
+use Rattle.concatenated.specs.Format.{shortPage}
+use Rattle.concatenated.specs.SoftPage.{softColumns}
+use Rattle.concatenated.specs.Decode.{Decoded, decoded}
+use Rattle.concatenated.specs.Readers.{shortReader}
+use Rattle.concatenated.specs.OuterCode.{shortOuter}
 use Rattle.page.specs.Outcomes.{outcomeOf, dataAfter}
 use Rattle.page.specs.declared.pages.PageOutcome.{PageOutcome}
 use Rattle.store.specs.Questions.{ask, firstAbove}

@@ -4,7 +4,7 @@ use mathlib.Core.List.{List}
 use Prim.Native.Nat.{ℕ, zero, suc, _+_, _-_}
 use lib.Dec.{eqb, ltb, leb}
 use lib.ListN.{length}
-use Rattle.outer.specs.Row.{outerAnswer, isFound}
+use Rattle.reedsolomon.specs.Row.{outerAnswer, isFound}
 use Rattle.store.specs.Questions.{ask, firstAbove}
 use Rattle.store.specs.declared.Outcome.{Outcome}
 use Rattle.store.specs.declared.Outcome.the-variants.{Done, Refused}

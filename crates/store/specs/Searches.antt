@@ -5,9 +5,9 @@ use lib.Dec.{eqb, ltb, leb}
 use lib.ListN.{length}
 use Rattle.column.specs.Shape.{short}
 use Rattle.paths.specs.Search.{Outcome, answer, spent}
-use Rattle.search.specs.Values.{values}
-use Rattle.search.specs.Demand.{Search, trellis}
-use Rattle.search.specs.Trellis.{searched}
+use Rattle.trellis.specs.Values.{values}
+use Rattle.trellis.specs.Demand.{Search, trellis}
+use Rattle.trellis.specs.Trellis.{searched}
 use Rattle.store.specs.Questions.{ask, firstAbove}
 use Rattle.store.specs.declared.SearchAnswer.{SearchAnswer}
 use Rattle.store.specs.declared.SearchAnswer.the-variants.{Found, Refused}

@@ -2,13 +2,13 @@
 ghost use mathlib.Core.Path.{_≡_};
 ghost use Prim.Native.Nat.{_*_, _<_};
 ghost use lib.ListN.{length};
-ghost use Rattle.search.specs.Demand.{whole, supercode};
-ghost use Rattle.page.specs.Format.{shortPage};
-ghost use Rattle.page.specs.SoftPage.{columnPart};
-ghost use Rattle.page.specs.Places.{placedAt};
-ghost use Rattle.page.specs.Written.{writtenPage};
-ghost use Rattle.page.specs.OuterCode.{shortEncoder};
-ghost use Rattle.page.specs.Steps.{searchOf};
+ghost use Rattle.trellis.specs.Demand.{whole, supercode};
+ghost use Rattle.concatenated.specs.Format.{shortPage};
+ghost use Rattle.concatenated.specs.SoftPage.{columnPart};
+ghost use Rattle.concatenated.specs.Places.{placedAt};
+ghost use Rattle.concatenated.specs.Written.{writtenPage};
+ghost use Rattle.concatenated.specs.OuterCode.{shortEncoder};
+ghost use Rattle.readings.specs.Steps.{searchOf};
 ghost use Rattle.store.specs.Outcome.{Filled};
 ghost use Rattle.store.specs.Pages.{encodePageAnswer, refusedPage, PageDecoded};
 use crate::Outcome;
@@ -84,5 +84,5 @@ pub fn column_of(page: &[u8], j: usize) -> &[u8]
     ensures { λ r. ⌜ now r ≡ columnPart shortPage (now (page .entry)) j ⌝ }
     ensures { λ r. ⌜ (length (now (page .entry)) ≡ 1890 → j < 63 → placedAt (r .ptr) (page .entry .ptr) (j * 30)) ⌝ }
 {
-    page::look::column_of(page, j)
+    readings::look::column_of(page, j)
 }

@@ -1,7 +1,7 @@
 // Row calls: 01, "Rows and page".
 ghost use mathlib.Core.Path.{_≡_};
 ghost use Prim.Native.Nat.{_<_, _≤_};
-ghost use Rattle.outer.specs.Row.{outerAnswer, encodedRow, wordOf};
+ghost use Rattle.reedsolomon.specs.Row.{outerAnswer, encodedRow, wordOf};
 ghost use Rattle.store.specs.Outcome.{Filled};
 ghost use Rattle.store.specs.Rows.{rootsOf, lengthRight, encodeRowAnswer, decodeRowAnswer};
 use crate::Outcome;

@@ -2,11 +2,11 @@
 ghost use Prim.Native.Nat.{ℕ, _<_, _≤_};
 ghost use mathlib.Core.Path.{_≡_};
 ghost use Rattle.column.specs.Shape.{short};
-ghost use Rattle.search.specs.Values.{values};
-ghost use Rattle.search.specs.Demand.{Search, whole, supercode, trellis};
-ghost use Rattle.search.specs.Trellis.{searched};
+ghost use Rattle.trellis.specs.Values.{values};
+ghost use Rattle.trellis.specs.Demand.{Search, whole, supercode, trellis};
+ghost use Rattle.trellis.specs.Trellis.{searched};
 ghost use Rattle.search.specs.Outcomes.{Searchable30, MasksFor};
-ghost use Rattle.page.specs.Steps.{searchOf};
+ghost use Rattle.readings.specs.Steps.{searchOf};
 ghost use Rattle.store.specs.Searches.{searchAnswer, outcomeAnswer};
 use crate::SearchAnswer;
 use crate::questions;

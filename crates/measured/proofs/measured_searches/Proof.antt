@@ -2,7 +2,7 @@
 use mathlib.Core.Path.{subst}
 use Prim.Native.Nat.{ℕ, _≤_}
 use lib.ListN.{length}
-use Rattle.search.specs.Demand.{whole, supercode}
+use Rattle.trellis.specs.Demand.{whole, supercode}
 use Rattle.search.proofs.ShortSearch.{masks-are-odd}
 use Rattle.store.specs.Questions.{firstAbove}
 use Rattle.store.proofs.FirstAbove.{below-first}

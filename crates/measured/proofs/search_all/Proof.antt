@@ -2,7 +2,7 @@
 use Rattle.measured.proofs.Parts.{part-searchable}
 use Prim.Native.Nat.{_≤_, _-_}
 use lib.ListN.{length}
-use Rattle.search.specs.Places.{Room}
+use Rattle.stack.specs.Places.{Room}
 use native.Mathlib.Omega.{arith}
 use borrow.Author.Needs.{needs}
 use Rattle.measured.proofs.search_all.Statement.{statement}

@@ -4,11 +4,11 @@ use mathlib.Core.List.{List}
 use Prim.Native.Nat.{ℕ}
 use lib.Dec.{lit<}
 use Rattle.field.proofs.Short.{primitive64}
-use Rattle.outer.specs.Search.{Answer}
-use Rattle.outer.specs.Row.{outerAnswer}
-use Rattle.outer.specs.Steps.{Padded}
-use Rattle.outer.proofs.Marks.{wrongs-at-most}
-use Rattle.outer.proofs.Deciding.{decoded-found, decoded-none, padded-row, codeword-by-syndromes, syndromes-by-codeword, too-many-erased, check-is-passed, row-is-the-answer, check-is-failed, answer-for-row}
+use Rattle.reedsolomon.specs.Search.{Answer}
+use Rattle.reedsolomon.specs.Row.{outerAnswer}
+use Rattle.reedsolomon.specs.Steps.{Padded}
+use Rattle.reedsolomon.proofs.Marks.{wrongs-at-most}
+use Rattle.reedsolomon.proofs.Deciding.{decoded-found, decoded-none, padded-row, codeword-by-syndromes, syndromes-by-codeword, too-many-erased, check-is-passed, row-is-the-answer, check-is-failed, answer-for-row}
 use native.Mathlib.Omega.{arith}
 use borrow.Author.Needs.{needs}
 use Rattle.outer.proofs.decode.Statement.{statement}

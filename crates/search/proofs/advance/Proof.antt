@@ -4,26 +4,15 @@ use lib.IntN.{ℤ, pos, _+ℤ_}
 use lib.ListN.{getD}
 use mir.Syntax.{w16}
 use mir.Val.{toZ, ofZ, SFits}
-use Rattle.search.specs.Keys.{key}
+use Rattle.trellis.specs.Keys.{key}
 use Rattle.search.specs.Steps.{Good, Held, tableExtension}
-use Rattle.search.proofs.Sums.{sum-fits, sum-back}
+use Rattle.stack.proofs.Sums.{sum-fits, sum-back}
 use Rattle.search.proofs.NextBit.{bit-less}
 use Rattle.search.proofs.Advances.{good-small, held-small, good-double, risen-held, flag, sum-near, extension-is, held-extension, advanced-at, advanced-full, advanced-both, advanced-dead, advanced-one}
 use native.Mathlib.Omega.{arith}
 use borrow.Author.Needs.{needs}
 use Rattle.search.proofs.advance.Statement.{statement}
 use Rattle.search.proofs.advance.Tie as tie
-use Rattle.search.proofs.advance.Reads as reads
-use Rattle.search.proofs.advance.Lts as lts
-use Rattle.search.proofs.asked_bit.Reads as asked-bit-reads
-use Rattle.search.proofs.conflicting.Reads as conflicting-reads
-use Rattle.search.proofs.exchange.Reads as exchange-reads
-use Rattle.search.proofs.parity_under.Reads as parity-under-reads
-use Rattle.search.proofs.read_bit.Reads as read-bit-reads
-use Rattle.search.proofs.rise.Reads as rise-reads
-use Rattle.search.proofs.take_next.Reads as take-next-reads
-use Rattle.search.proofs.unchecked.Reads as unchecked-reads
-use Rattle.search.proofs.value_of.Reads as value-of-reads
 
 -- ---- what the places share
 

@@ -1,8 +1,6 @@
 use borrow.Author.Tests.{eq-eqb, ne-eqb}
 use Rattle.search.proofs.conflicting.Statement.{statement}
 use Rattle.search.proofs.conflicting.Tie as tie
-use Rattle.search.proofs.conflicting.Reads as reads
-use Rattle.search.proofs.conflicting.Lts as lts
 
 returns : tie.Need-returns
 returns c = rw (eq-eqb _ _ (c .if1 .taken))

@@ -4,17 +4,14 @@ use mathlib.Core.List.{List}
 use mir.Syntax.{w16}
 use mir.Val.{toZ, SFits}
 use Rattle.heap.specs.Holds.{Holds}
-use Rattle.search.specs.Keys.{Key, key}
-use Rattle.search.specs.Places.{at, Room, Upto}
+use Rattle.trellis.specs.Keys.{Key, key}
+use Rattle.stack.specs.Places.{at, Room, Upto}
 use Rattle.search.specs.Steps.{tableNodes, Standing, Going}
 use Rattle.search.proofs.Advances.{advanced-at}
 use Rattle.search.proofs.Continues.{going-start, going-next, answered, ended, standing-at, standing-next, standing-end, reached-by}
 use native.Mathlib.Omega.{arith}
 use Rattle.search.proofs.run.Statement.{statement}
 use Rattle.search.proofs.run.Tie as tie
-use Rattle.search.proofs.run.Reads as reads
-use Rattle.search.proofs.run.Lts as lts
-use Rattle.search.proofs.advance.Reads as advance-reads
 
 abbrev Inv-loop : tie.InvT-loop
 Inv-loop sums₀ lens₀ bits₀ n col left right values limit paths₀ count₀ s₀ l₀ b₀ sums lens bits paths count s l b =

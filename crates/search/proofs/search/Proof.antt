@@ -2,9 +2,6 @@ use mathlib.Core.List.{[]}
 use Rattle.search.proofs.Continues.{standing-start, holds-none, found-is, spent-is}
 use Rattle.search.proofs.search.Statement.{statement}
 use Rattle.search.proofs.search.Tie as tie
-use Rattle.search.proofs.search.Reads as reads
-use Rattle.search.proofs.search.Lts as lts
-use Rattle.search.proofs.run.Reads as run-reads
 
 run-requires : tie.Need-run-requires
 run-requires c κs =

@@ -5,9 +5,6 @@ use native.Mathlib.Omega.{arith}
 use borrow.Author.Needs.{needs}
 use Rattle.search.proofs.take_next.Statement.{statement}
 use Rattle.search.proofs.take_next.Tie as tie
-use Rattle.search.proofs.take_next.Reads as reads
-use Rattle.search.proofs.take_next.Lts as lts
-use Rattle.search.proofs.take_first.Reads as take-first-reads
 
 returns : tie.Need-returns
 returns c = (c .before .pre .1 .0, record { next = inl ((c .if1 .taken, refl, refl)) })

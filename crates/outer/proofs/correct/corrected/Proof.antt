@@ -2,9 +2,9 @@
 use Prim.Native.Nat.{_≤_}
 use lib.Dec.{lit<}
 use Rattle.field.proofs.Short.{field64, primitive64}
-use Rattle.outer.specs.Words.{count}
-use Rattle.outer.specs.Row.{marked}
-use Rattle.outer.proofs.Correcting.{correction-by-amounts, syndromes-of-corrected, suspects-bounded, syndromes-inside}
+use Rattle.reedsolomon.specs.Words.{count}
+use Rattle.reedsolomon.specs.Row.{marked}
+use Rattle.reedsolomon.proofs.Correcting.{correction-by-amounts, syndromes-of-corrected, suspects-bounded, syndromes-inside}
 use native.Mathlib.Omega.{arith}
 use borrow.Author.Needs.{needs}
 use Rattle.outer.proofs.correct.corrected.Statement.{statement}

@@ -3,8 +3,8 @@ use mathlib.Core.Path.{sym, ap, _∙_}
 use mathlib.Core.Bool.{Bool}
 use native.Mathlib.Decide.{ℕ-discrete}
 use borrow.Author.Tests.{eq-eqb, ne-eqb}
-use Rattle.outer.specs.Words.{wrong}
-use Rattle.outer.proofs.Counting.{unequal-of-equal, unequal-of-different}
+use Rattle.reedsolomon.specs.Words.{wrong}
+use Rattle.reedsolomon.proofs.Counting.{unequal-of-equal, unequal-of-different}
 use Rattle.outer.proofs.correct.differs.Statement.{statement}
 use Rattle.outer.proofs.correct.differs.Tie as tie
 

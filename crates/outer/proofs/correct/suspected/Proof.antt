@@ -2,7 +2,7 @@
 use mathlib.Core.Path.{ap}
 use Prim.Native.Nat.{ℕ, _-_, _/_, _≤_}
 use Rattle.field.proofs.Short.{field64}
-use Rattle.outer.proofs.Correcting.{suspects-by-locator}
+use Rattle.reedsolomon.proofs.Correcting.{suspects-by-locator}
 use native.Mathlib.Omega.{arith}
 use borrow.Author.Needs.{needs}
 use Rattle.outer.proofs.correct.suspected.Statement.{statement}

@@ -2,9 +2,9 @@
 use mathlib.Core.Path.{_≡_, ap, _∙_}
 use Prim.Native.Nat.{ℕ, _+_, _-_, _≤_}
 use native.Mathlib.Decide.{ℕ-discrete}
-use Rattle.outer.specs.Words.{errors}
-use Rattle.outer.specs.Row.{symbol, marked}
-use Rattle.outer.proofs.Marks.{none-wrong, wrongs-at-most, one-more-compared}
+use Rattle.reedsolomon.specs.Words.{errors}
+use Rattle.reedsolomon.specs.Row.{symbol, marked}
+use Rattle.reedsolomon.proofs.Marks.{none-wrong, wrongs-at-most, one-more-compared}
 use native.Mathlib.Omega.{arith}
 use borrow.Author.Needs.{needs}
 use Rattle.outer.proofs.correct.wrong.Statement.{statement}

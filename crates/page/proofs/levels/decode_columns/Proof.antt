@@ -1,8 +1,8 @@
 -- `page::levels::decode_columns` meets its contract: the arrays hold what the run has given below the level. Assumes nothing.
 use Prim.Native.Nat.{_-_}
-use Rattle.search.specs.Places.{Room}
-use Rattle.page.specs.Readers.{shortReader}
-use Rattle.page.specs.Steps.{searchOf}
+use Rattle.stack.specs.Places.{Room}
+use Rattle.concatenated.specs.Readers.{shortReader}
+use Rattle.readings.specs.Steps.{searchOf}
 use Rattle.page.proofs.LevelRuns.{not-so, so, Decoding, decoding-none, decoding-more, decoding-refused, decoding-answered}
 use borrow.Author.Needs.{needs}
 use Rattle.page.proofs.levels.decode_columns.Statement.{statement}

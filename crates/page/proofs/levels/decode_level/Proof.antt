@@ -3,8 +3,8 @@ use mathlib.Core.Path.{_≡_, refl, sym, _∙_}
 use Prim.Native.Nat.{_-_}
 use mathlib.Core.List.{map}
 use lib.ListN.{length, length-map}
-use Rattle.page.specs.Readers.{shortReader}
-use Rattle.page.specs.Steps.{searchOf}
+use Rattle.concatenated.specs.Readers.{shortReader}
+use Rattle.readings.specs.Steps.{searchOf}
 use Rattle.page.specs.Levels.{LevelDone}
 use Rattle.page.proofs.LevelSteps.{read-long, read-small, soft-off, row-is-a-word, level-refused, level-settled}
 use borrow.Author.Needs.{needs}

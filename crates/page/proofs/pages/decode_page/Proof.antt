@@ -3,10 +3,10 @@ use mathlib.Core.Path.{refl, sym, ap, _∙_}
 use Prim.Native.Nat.{ℕ, _-_}
 use mathlib.Core.List.{List}
 use Rattle.column.specs.Shape.{short}
-use Rattle.page.specs.Decode.{decoded}
-use Rattle.page.specs.Readers.{shortReader}
-use Rattle.page.specs.Steps.{searchOf}
-use Rattle.page.specs.OuterCode.{shortOuter}
+use Rattle.concatenated.specs.Decode.{decoded}
+use Rattle.concatenated.specs.Readers.{shortReader}
+use Rattle.readings.specs.Steps.{searchOf}
+use Rattle.concatenated.specs.OuterCode.{shortOuter}
 use Rattle.page.specs.Outcomes.{outcomeOf, dataAfter}
 use Rattle.page.proofs.PageOutcomes.{soft-columns, is-answered, is-refused, rows-data-is-200, rows-data-small, answered-outcome, answered-data}
 use borrow.Author.Needs.{needs}

@@ -1,9 +1,9 @@
 -- `page::pages::encode_page` meets its contract: the rows are those of the data, and so are their bytes. Assumes nothing.
 use mathlib.Core.Path.{ap, _∙_, subst, subst⁻¹}
 use Prim.Native.Nat.{_-_}
-use Rattle.page.specs.Format.{shortPage}
-use Rattle.page.specs.Arrays.{Rows}
-use Rattle.page.specs.Written.{pageInBytes, writtenPage}
+use Rattle.concatenated.specs.Format.{shortPage}
+use Rattle.concatenated.specs.Arrays.{Rows}
+use Rattle.concatenated.specs.Written.{pageInBytes, writtenPage}
 use Rattle.page.proofs.RowEncoding.{written-rows-are-rows}
 use borrow.Author.Needs.{needs}
 use Rattle.page.proofs.pages.encode_page.Statement.{statement}

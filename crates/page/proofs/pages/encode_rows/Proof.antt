@@ -1,16 +1,16 @@
 -- `page::pages::encode_rows` meets its contract: the rows below the level are written, and the next data symbols begin behind theirs. Assumes nothing.
 use mathlib.Core.Path.{_≡_, refl, ap, _∙_, subst, subst⁻¹}
 use Prim.Native.Nat.{_-_}
-use Rattle.page.proofs.Filling.{Front, front-none, front-more, front-all}
+use Rattle.concatenated.proofs.Filling.{Front, front-none, front-more, front-all}
 use mathlib.Core.List.{[]}
 use lib.ListN.{length}
-use Rattle.page.proofs.Digits.{repacked-length}
-use Rattle.outer.specs.Steps.{RowRoots}
-use Rattle.page.specs.Format.{shortPage, dataBefore}
-use Rattle.page.specs.Written.{writtenRows}
-use Rattle.page.specs.OuterCode.{shortEncoder}
-use Rattle.page.proofs.DataGroups.{row-data-within-200}
-use Rattle.page.proofs.OuterJoint.{roots-of-rows}
+use Rattle.concatenated.proofs.Digits.{repacked-length}
+use Rattle.reedsolomon.specs.Steps.{RowRoots}
+use Rattle.concatenated.specs.Format.{shortPage, dataBefore}
+use Rattle.concatenated.specs.Written.{writtenRows}
+use Rattle.concatenated.specs.OuterCode.{shortEncoder}
+use Rattle.concatenated.proofs.DataGroups.{row-data-within-200}
+use Rattle.concatenated.proofs.OuterJoint.{roots-of-rows}
 use Rattle.page.proofs.RowEncoding.{four-rows, part-and-roots, part-small, row-written, next-place}
 use native.Mathlib.Omega.{arith}
 use borrow.Author.Needs.{needs}

@@ -1,5 +1,5 @@
 -- `search::short_page::search_column` meets its contract: by the law that the search on keys is 01's search. Assumes nothing.
-use Rattle.search.specs.Values.{values}
+use Rattle.trellis.specs.Values.{values}
 use Rattle.search.proofs.ShortSearch.{given-short, table-short, search-short}
 use Rattle.search.proofs.short_page.search_column.Statement.{statement}
 use Rattle.search.proofs.short_page.search_column.Tie as tie

@@ -3,7 +3,7 @@ use mathlib.Core.Path.{_≡_, sym, ap, _∙_, subst}
 use Prim.Native.Nat.{ℕ, _+_, _≤_, _<_}
 use borrow.Author.Tests.{le-ltb, lt-ltb, le-leb, lt-leb, eq-eqb, ne-eqb, not-true, not-false}
 use lib.ListN.{length}
-use Rattle.outer.specs.Row.{outerAnswer, wordOf, isFound}
+use Rattle.reedsolomon.specs.Row.{outerAnswer, wordOf, isFound}
 use Rattle.store.specs.Questions.{firstAbove}
 use Rattle.store.proofs.RowRanges.{roots-most, symbols-in-range, none-written}
 use Rattle.store.proofs.Filled.{refused, refused-unwritten, done}

@@ -3,8 +3,8 @@ use mathlib.Core.Path.{_≡_, sym, ap, _∙_, subst}
 use Prim.Native.Nat.{ℕ, _+_, _≤_, _<_}
 use borrow.Author.Tests.{le-ltb, lt-ltb, le-leb, lt-leb, eq-eqb, ne-eqb, not-true, not-false}
 use lib.ListN.{length}
-use Rattle.outer.specs.Row.{encodedRow}
-use Rattle.outer.specs.Steps.{RowRoots}
+use Rattle.reedsolomon.specs.Row.{encodedRow}
+use Rattle.reedsolomon.specs.Steps.{RowRoots}
 use Rattle.store.specs.Questions.{firstAbove}
 use Rattle.store.proofs.RowRanges.{row-roots, row-length, symbols-in-range}
 use Rattle.store.proofs.Filled.{refused, done}

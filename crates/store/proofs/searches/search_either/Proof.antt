@@ -2,7 +2,7 @@
 use mathlib.Core.Path.{_≡_, sym, _∙_, subst}
 use Prim.Native.Nat.{ℕ, _≤_, _<_}
 use borrow.Author.Tests.{eq-eqb, ne-eqb, le-ltb, lt-ltb, le-leb, lt-leb}
-use Rattle.search.specs.Demand.{whole, supercode}
+use Rattle.trellis.specs.Demand.{whole, supercode}
 use Rattle.store.specs.Questions.{firstAbove}
 use Rattle.store.proofs.Outcomes.{searchable-column}
 use borrow.Author.Needs.{needs}

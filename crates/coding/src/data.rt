@@ -1,0 +1,88 @@
+// Data as bytes and as symbols: three bytes to four symbols, in groups that run on across the borders of rows.
+ghost use mathlib.Core.List.{[]};
+ghost use mathlib.Core.Path.{_≡_};
+ghost use Prim.Native.Nat.{ℕ, _+_, _<_, _≤_};
+ghost use lib.ListN.{length, getD};
+ghost use lib.Seq.{paste};
+ghost use Rattle.concatenated.specs.Format.{shortPage, shortRoots};
+ghost use Rattle.concatenated.specs.Data.{dataSymbols, dataBytes};
+ghost use Rattle.concatenated.specs.Written.{rowsData};
+
+// The symbols of the data.
+pub fn symbols_of(data: &[u8], out: &mut [u8; 200])
+    requires { ⌜ (length (now «data») ≡ 150) × (length (now out) ≡ 200) ⌝ }
+    ensures { λ r. ⌜ now (out .exit) ≡ dataSymbols shortPage (now («data» .entry)) ⌝ }
+{
+    let mut g: usize = 0;
+    while g < 50 {
+        let from = g * 3;
+        let to = g * 4;
+        let s = packing::unpack(data[from], data[from + 1], data[from + 2]);
+        out[to] = s.s0;
+        out[to + 1] = s.s1;
+        out[to + 2] = s.s2;
+        out[to + 3] = s.s3;
+        g += 1;
+    }
+}
+
+// The data of the symbols.
+pub fn bytes_of(symbols: &[u8; 200], out: &mut [u8])
+    requires { ⌜ (length (now symbols) ≡ 200) × (length (now out) ≡ 150) × ((k : ℕ) → getD (now symbols) k 0 < 64) ⌝ }
+    ensures { λ r. ⌜ now (out .exit) ≡ dataBytes shortPage (now (symbols .entry)) ⌝ }
+{
+    let mut g: usize = 0;
+    while g < 50 {
+        let from = g * 4;
+        let to = g * 3;
+        let b = packing::pack(
+            symbols[from],
+            symbols[from + 1],
+            symbols[from + 2],
+            symbols[from + 3],
+        );
+        out[to] = b.b0;
+        out[to + 1] = b.b1;
+        out[to + 2] = b.b2;
+        g += 1;
+    }
+}
+
+// Copies the first n symbols of a row to the places from `at` on.
+fn put(row: &[u8; 63], n: usize, at: usize, out: &mut [u8; 200])
+    requires { ⌜ (length (now row) ≡ 63) × (length (now out) ≡ 200) × (n ≤ 63) × (at + n ≤ 200) ⌝ }
+    ensures { λ r. ⌜ now (out .exit) ≡ paste (now (out .entry)) at (now (row .entry)) n ⌝ }
+{
+    let mut k: usize = 0;
+    while k < n {
+        out[at + k] = row[k];
+        k += 1;
+    }
+}
+
+// The roots of the levels.
+const ROOTS: [usize; 4] = [30, 12, 6, 4];
+
+// T of a level.
+pub fn roots(level: usize) -> usize
+    requires { ⌜ level < 4 ⌝ }
+    ensures { λ r. ⌜ (r ≡ shortRoots level) × (r ≤ 30) ⌝ }
+{
+    ROOTS[level]
+}
+
+// The data symbols in front of the rows.
+pub fn rows_data(rows: &[[u8; 63]; 4], out: &mut [u8; 200])
+    requires { ⌜ (length (now rows) ≡ 4) × (length (now out) ≡ 200) × ((i : ℕ) → i < 4 → length (getD (now rows) i []) ≡ 63) ⌝ }
+    ensures { λ r. ⌜ now (out .exit) ≡ rowsData shortPage (now (rows .entry)) 4 ⌝ }
+{
+    let mut at: usize = 0;
+    let mut level: usize = 0;
+    while level < 4 {
+        let row = rows[level];
+        let n = 63 - roots(level);
+        put(&row, n, at, &mut *out);
+        at += n;
+        level += 1;
+    }
+}

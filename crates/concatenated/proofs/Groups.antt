@@ -1,0 +1,85 @@
+-- Groups of entries: the groups of packed data and of a written page's bytes, entry by entry, and lists written group by group. Assumes nothing.
+use mathlib.Core.List.{List, [], _∷_, _++_, flatMap}
+use mathlib.Core.Path.{_≡_, refl, sym, ap, ap₂, _∙_, subst}
+use Prim.Native.Nat.{ℕ, zero, suc, _+_, _*_, _≤_, _<_}
+use native.Mathlib.Nat.{not-suc-le-zero, le-of-suc-le-suc, suc-mul, zero-mul}
+use native.Mathlib.Numerals.{add-one}
+use native.Mathlib.Omega.{arith}
+use lib.ListN.{length, getD, take, drop, set, List·getD-append}
+use lib.Seq.{drop-cons, drop-drop, getD-append-add}
+use Rattle.packing.specs.Packing.{joined}
+use Rattle.concatenated.specs.Data.{digits, repacked}
+use Rattle.concatenated.proofs.Digits.{digits-length}
+use Rattle.concatenated.proofs.Filling.{Front, front-more}
+
+-- an entry of groups of b, one after the other
+later : {A : Type 0} (xs ys : List A) (b g k : ℕ) (d : A) → length xs ≡ b → getD (xs ++ ys) (suc g * b + k) d ≡ getD ys (g * b + k) d
+later xs ys b g k d e =
+    let z : suc g * b + k ≡ length xs + (g * b + k) = omega (arith, suc-mul g b, e) in
+    ap (λ (t : ℕ). getD (xs ++ ys) t d) z ∙ getD-append-add xs ys (g * b + k) d
+
+sooner : {A : Type 0} (xs ys : List A) (b k : ℕ) (d : A) → length xs ≡ b → k < b → getD (xs ++ ys) (0 * b + k) d ≡ getD xs k d
+sooner xs ys b k d e h =
+    let z : 0 * b + k ≡ k = omega (arith, zero-mul b) in
+    ap (λ (t : ℕ). getD (xs ++ ys) t d) z ∙ List·getD-append xs ys d k (subst (λ (t : ℕ). k < t) (sym e) h)
+
+-- entry k of group g of packed data
+pub repacked-at : (p a q b n : ℕ) (xs : List ℕ) (g k : ℕ) → g < n → k < b → getD (repacked p a q b n xs) (g * b + k) 0 ≡ getD (digits q b (joined p 0 (take a (drop (g * a) xs)))) k 0
+unfolding repacked
+repacked-at p a q b zero xs g k h l = absurd (not-suc-le-zero h)
+repacked-at p a q b (suc n) xs zero k h l =
+    let z : 0 * a ≡ 0 = zero-mul a in
+    sooner (digits q b (joined p 0 (take a xs))) (repacked p a q b n (drop a xs)) b k 0 (digits-length q b (joined p 0 (take a xs))) l
+    ∙ ap (λ (t : ℕ). getD (digits q b (joined p 0 (take a (drop t xs)))) k 0) (sym z)
+repacked-at p a q b (suc n) xs (suc g) k h l =
+    let z : a + g * a ≡ suc g * a = omega (arith, suc-mul g a) in
+    later (digits q b (joined p 0 (take a xs))) (repacked p a q b n (drop a xs)) b g k 0 (digits-length q b (joined p 0 (take a xs)))
+    ∙ repacked-at p a q b n (drop a xs) g k (le-of-suc-le-suc h) l
+    ∙ ap (λ (t : List ℕ). getD (digits q b (joined p 0 (take a t))) k 0) (drop-drop (g * a) a xs ∙ ap (λ (t : ℕ). drop t xs) z)
+
+-- entry k of the group of entry g
+pub flat-at : {A : Type 0} (f : A → List ℕ) (b : ℕ) → ((x : A) → length (f x) ≡ b) → (xs : List A) (g k : ℕ) (d : A) → g < length xs → k < b
+    → getD (flatMap f xs) (g * b + k) 0 ≡ getD (f (getD xs g d)) k 0
+unfolding flatMap
+flat-at f b e [] g k d h l = absurd (not-suc-le-zero h)
+flat-at f b e (x ∷ xs) zero k d h l = sooner (f x) (flatMap f xs) b k 0 (e x) l
+flat-at f b e (x ∷ xs) (suc g) k d h l = later (f x) (flatMap f xs) b g k 0 (e x) ∙ flat-at f b e xs g k d (le-of-suc-le-suc h) l
+
+-- the entries of a part
+pub three-from : (l : List ℕ) (j : ℕ) → j + 3 ≤ length l → take 3 (drop j l) ≡ getD l j 0 ∷ getD l (j + 1) 0 ∷ getD l (j + 2) 0 ∷ []
+three-from l j h =
+    ap (take 3) (drop-cons l j 0 (omega arith))
+    ∙ ap (λ (t : List ℕ). getD l j 0 ∷ take 2 t) (ap (λ (k : ℕ). drop k l) (sym (add-one j)) ∙ drop-cons l (j + 1) 0 (omega arith))
+    ∙ ap (λ (t : List ℕ). getD l j 0 ∷ getD l (j + 1) 0 ∷ take 1 t) (let z : suc (j + 1) ≡ j + 2 = omega arith in ap (λ (k : ℕ). drop k l) z ∙ drop-cons l (j + 2) 0 (omega arith))
+
+pub four-from : (l : List ℕ) (j : ℕ) → j + 4 ≤ length l → take 4 (drop j l) ≡ getD l j 0 ∷ getD l (j + 1) 0 ∷ getD l (j + 2) 0 ∷ getD l (j + 3) 0 ∷ []
+four-from l j h =
+    ap (take 4) (drop-cons l j 0 (omega arith))
+    ∙ ap (λ (t : List ℕ). getD l j 0 ∷ take 3 t) (ap (λ (k : ℕ). drop k l) (sym (add-one j)))
+    ∙ ap (λ (t : List ℕ). getD l j 0 ∷ t) (three-from l (j + 1) (omega arith))
+    ∙ ap₂ (λ (u v : ℕ). getD l j 0 ∷ getD l (j + 1) 0 ∷ getD l u 0 ∷ getD l v 0 ∷ []) (omega arith) (omega arith)
+
+-- one entry more, at a place and to a number that are told otherwise
+next : (target out : List ℕ) (n j k m v : ℕ) → Front target out n j → k ≡ j → m ≡ j + 1 → j < n → v ≡ getD target k 0 → Front target (set out k v) n m
+next target out n j k m v f ek em h e =
+    subst (λ (t : ℕ). Front target (set out k v) n t) (sym em)
+    (subst (λ (t : ℕ). Front target (set out t v) n (j + 1)) (sym ek) (front-more target out n j v 0 f h (e ∙ ap (λ (t : ℕ). getD target t 0) ek)))
+
+-- a group of three more
+pub three-more : (target out : List ℕ) (n g u v w : ℕ) → Front target out n (g * 3) → g * 3 + 3 ≤ n
+    → u ≡ getD target (g * 3 + 0) 0 → v ≡ getD target (g * 3 + 1) 0 → w ≡ getD target (g * 3 + 2) 0
+    → Front target (set (set (set out (g * 3) u) (g * 3 + 1) v) (g * 3 + 2) w) n ((g + 1) * 3)
+three-more target out n g u v w f h eu ev ew =
+    let a = next target out n (g * 3) (g * 3) (g * 3 + 1) u f refl refl (omega arith) (eu ∙ ap (λ (t : ℕ). getD target t 0) (omega arith)) in
+    let b = next target _ n (g * 3 + 1) (g * 3 + 1) (g * 3 + 2) v a refl (omega arith) (omega arith) ev in
+    next target _ n (g * 3 + 2) (g * 3 + 2) ((g + 1) * 3) w b refl (omega arith) (omega arith) ew
+
+-- a group of four more
+pub four-more : (target out : List ℕ) (n g u v w x : ℕ) → Front target out n (g * 4) → g * 4 + 4 ≤ n
+    → u ≡ getD target (g * 4 + 0) 0 → v ≡ getD target (g * 4 + 1) 0 → w ≡ getD target (g * 4 + 2) 0 → x ≡ getD target (g * 4 + 3) 0
+    → Front target (set (set (set (set out (g * 4) u) (g * 4 + 1) v) (g * 4 + 2) w) (g * 4 + 3) x) n ((g + 1) * 4)
+four-more target out n g u v w x f h eu ev ew ex =
+    let a = next target out n (g * 4) (g * 4) (g * 4 + 1) u f refl refl (omega arith) (eu ∙ ap (λ (t : ℕ). getD target t 0) (omega arith)) in
+    let b = next target _ n (g * 4 + 1) (g * 4 + 1) (g * 4 + 2) v a refl (omega arith) (omega arith) ev in
+    let c = next target _ n (g * 4 + 2) (g * 4 + 2) (g * 4 + 3) w b refl (omega arith) (omega arith) ew in
+    next target _ n (g * 4 + 3) (g * 4 + 3) ((g + 1) * 4) x c refl (omega arith) (omega arith) ex

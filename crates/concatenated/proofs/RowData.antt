@@ -1,0 +1,74 @@
+-- The data of the rows: each row has its part of the data symbols, and the rows together have all. Assumes nothing.
+use mathlib.Core.Path.{_≡_, refl, sym, ap, ap₂, _∙_, subst, subst⁻¹}
+use mathlib.Core.List.{List, [], _++_}
+use Prim.Native.Nat.{ℕ, zero, suc, _+_, _-_, _≤_, _<_}
+use native.Mathlib.Nat
+use native.Mathlib.Omega.{arith}
+use lib.Pow.{pow-pos}
+use lib.ListN.{length, length-drop, getD, take, drop, take-append-drop}
+use lib.Seq.{length-take-le, take-all, take-add}
+use Rattle.column.specs.Shape.{levels}
+use Rattle.concatenated.specs.Format.{Format, SoundFormat, symbolValues, dataLength, dataCount, dataBefore}
+use Rattle.concatenated.specs.Data.{dataSymbols, dataBytes}
+use Rattle.concatenated.specs.Written.{rowData, rowsData, bytesOfRows}
+use Rattle.concatenated.proofs.Lists.{all-of-append, all-at}
+use Rattle.concatenated.proofs.Digits.{Below, packing-comes-back, repacked-length, repacked-below}
+
+module _ (P : Format) where
+  data-before-grows : (i k : ℕ) → dataBefore P i ≤ dataBefore P (k + i)
+  unfolding dataBefore
+  data-before-grows i zero = subst (λ (t : ℕ). dataBefore P i ≤ dataBefore P t) (sym (Nat.zero-add i)) (omega arith)
+  data-before-grows i (suc k) = subst (λ (t : ℕ). dataBefore P i ≤ dataBefore P t) (sym (Nat.suc-add k i)) (omega (arith, data-before-grows i k))
+
+  -- the data of a row lie within all data
+  pub row-data-within : (i n : ℕ) → i < n → dataBefore P i + dataCount P i ≤ dataBefore P n
+  unfolding dataBefore
+  row-data-within i n h =
+      let e : n - suc i + suc i ≡ n = omega arith in
+      subst (λ (t : ℕ). dataBefore P (suc i) ≤ dataBefore P t) e (data-before-grows (suc i) (n - suc i))
+
+  module _ (xs : List ℕ) (all : length xs ≡ dataBefore P (levels (P .shape))) where
+    pub row-data-length : (i : ℕ) → i < levels (P .shape) → length (rowData P xs i) ≡ dataCount P i
+    unfolding rowData
+    row-data-length i h =
+        length-take-le (dataCount P i) (drop (dataBefore P i) xs) (omega (arith, length-drop (dataBefore P i) xs, row-data-within i (levels (P .shape)) h))
+
+    pub row-data-in-range : (q : ℕ) → Below q xs → (i : ℕ) → i < levels (P .shape) → (j : ℕ) → j < dataCount P i → getD (rowData P xs i) j 0 < q
+    unfolding rowData
+    row-data-in-range q h i hi j hj =
+        let later : List ℕ = drop (dataBefore P i) xs in
+        let below-later = all-of-append (λ x. x < q) (take (dataBefore P i) xs) later (subst⁻¹ (Below q) (take-append-drop (dataBefore P i) xs) h) .1 in
+        let below-row = all-of-append (λ x. x < q) (take (dataCount P i) later) (drop (dataCount P i) later) (subst⁻¹ (Below q) (take-append-drop (dataCount P i) later) below-later) .0 in
+        all-at (λ x. x < q) (take (dataCount P i) later) j 0 below-row (subst⁻¹ (λ (t : ℕ). j < t) (row-data-length i hi) hj)
+
+    -- rows with these data in front have all data
+    module _ (rs : List (List ℕ)) (fronts : (i : ℕ) → i < levels (P .shape) → take (dataCount P i) (getD rs i []) ≡ rowData P xs i) where
+      rows-data-below : (n : ℕ) → n ≤ levels (P .shape) → rowsData P rs n ≡ take (dataBefore P n) xs
+      unfolding rowsData dataBefore rowData
+      rows-data-below zero h = refl
+      rows-data-below (suc n) h =
+          ap₂ (λ (us vs : List ℕ). us ++ vs) (rows-data-below n (omega arith)) (fronts n (omega arith)) ∙ sym (take-add (dataBefore P n) (dataCount P n) xs)
+
+      pub rows-have-all-data : rowsData P rs (levels (P .shape)) ≡ xs
+      rows-have-all-data = rows-data-below (levels (P .shape)) (omega arith) ∙ take-all (dataBefore P (levels (P .shape))) xs (omega arith)
+
+  -- ---- from bytes
+
+  module _ (ok : SoundFormat P) (bytes : List ℕ) where
+    pub data-symbols-fill-the-rows : length (dataSymbols P bytes) ≡ dataBefore P (levels (P .shape))
+    data-symbols-fill-the-rows = repacked-length 256 (P .groupBytes) (symbolValues P) (P .groupSymbols) (P .groups) bytes ∙ sym (ok .holds)
+
+    pub data-symbols-in-range : Below (symbolValues P) (dataSymbols P bytes)
+    data-symbols-in-range = repacked-below 256 (P .groupBytes) (symbolValues P) (P .groupSymbols) (P .groups) bytes (pow-pos (P .shape .symbol))
+
+    -- the symbols of data are its bytes again
+    pub data-come-back : length bytes ≡ dataLength P → Below 256 bytes → dataBytes P (dataSymbols P bytes) ≡ bytes
+    data-come-back =
+        packing-comes-back 256 (P .groupBytes) (symbolValues P) (P .groupSymbols) (P .groups) bytes (pow-pos (P .shape .symbol)) (ok .packs)
+
+    -- rows with the data in front hold the bytes
+    pub bytes-of-rows-with-data : length bytes ≡ dataLength P → Below 256 bytes → (rs : List (List ℕ))
+        → ((i : ℕ) → i < levels (P .shape) → take (dataCount P i) (getD rs i []) ≡ rowData P (dataSymbols P bytes) i) → bytesOfRows P rs ≡ bytes
+    unfolding bytesOfRows
+    bytes-of-rows-with-data l h rs fronts =
+        ap (dataBytes P) (rows-have-all-data (dataSymbols P bytes) data-symbols-fill-the-rows rs fronts) ∙ data-come-back l h

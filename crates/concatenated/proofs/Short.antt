@@ -1,0 +1,103 @@
+-- The short page: 63 columns, roots 30, 12, 6, 4, 150 bytes of data. Assumes nothing.
+use mathlib.Core.List.{List, [], _∷_}
+use mathlib.Core.Path.{_≡_, refl}
+use Prim.Native.Nat.{ℕ, zero, suc, _≤_, _<_}
+use native.Mathlib.Omega.{arith}
+use lib.Dec.{lit≤}
+use lib.ListN.{length}
+use Rattle.column.specs.Shape.{short, generator}
+use Rattle.column.proofs.Short as Column
+use Rattle.trellis.specs.Values.{values}
+use Rattle.trellis.specs.Demand.{Search as Kind, whole, supercode}
+use Rattle.trellis.proofs.Short as Columns
+use Rattle.packing.specs.Packing.{columnBytes}
+use Rattle.concatenated.specs.Lists.{All, total}
+use Rattle.concatenated.specs.Format.{SoundFormat, shortPage, shortRoots, dataLength, dataCount, dataBefore}
+use Rattle.concatenated.specs.Outer.{RowDecoder, RowEncoder, OuterLaws}
+use Rattle.concatenated.specs.Data.{digits}
+use Rattle.concatenated.specs.SoftPage.{Soft, softColumns}
+use Rattle.concatenated.specs.Decode.{Level, answered, decoded, rows, Reaches}
+use Rattle.concatenated.specs.Written.{writtenRows, writtenPage, columnsOf, columnInBytes, bytesOfRows}
+use Rattle.concatenated.specs.Misread.{WithinReach}
+use Rattle.concatenated.specs.Readers.{shortReader, deadAhead, Apart, Agree, NoneSpent, sumBelow}
+use Rattle.concatenated.specs.Clean.{ReadsAs, NoColumnSpent, AgreeingIsAbove}
+use Rattle.concatenated.proofs.Digits.{Below}
+use Rattle.concatenated.proofs.Encoding.{page-in-bytes-length}
+use Rattle.concatenated.proofs.PageBack as PageBack
+use Rattle.concatenated.proofs.DecodersAgree as DecodersAgree
+use Rattle.concatenated.proofs.SoftPages.{as-many-columns, columns-are-soft}
+use Rattle.concatenated.proofs.CleanColumns.{searches-find-the-reading}
+use Rattle.concatenated.proofs.CleanPages as CleanPages
+
+roots-fit : (i : ℕ) → i < 4 → shortRoots i ≤ 63
+unfolding shortRoots
+roots-fit zero h = lit≤ tt
+roots-fit (suc zero) h = lit≤ tt
+roots-fit (suc (suc zero)) h = lit≤ tt
+roots-fit (suc (suc (suc zero))) h = lit≤ tt
+roots-fit (suc (suc (suc (suc i)))) h = absurd (omega arith)
+
+pub short-page-sound : SoundFormat shortPage
+unfolding dataBefore shortRoots
+short-page-sound = record { shape-sound = Column.sound; roots-fit = roots-fit; packs = refl; holds = refl }
+
+-- 01: "The first 33, 51, 57, 59 columns hold data", "150 bytes: 200 symbols"
+pub short-page-numbers : (dataCount shortPage 0 ≡ 33) × (dataCount shortPage 1 ≡ 51) × (dataCount shortPage 2 ≡ 57) × (dataCount shortPage 3 ≡ 59) × (dataLength shortPage ≡ 150) × (dataBefore shortPage 4 ≡ 200)
+unfolding dataBefore shortRoots
+short-page-numbers = (refl, refl, refl, refl, refl, refl)
+
+-- 01: "four a column: 30 bits from the top, two zeros", as the code writes them
+pub column-in-bytes : (x : ℕ) → let b = columnBytes x in columnInBytes shortPage x ≡ b .b0 ∷ b .b1 ∷ b .b2 ∷ b .b3 ∷ []
+unfolding columnInBytes digits
+column-in-bytes x = refl
+
+agreeing-is-above : AgreeingIsAbove values
+agreeing-is-above zero h = refl
+agreeing-is-above (suc zero) h = refl
+agreeing-is-above (suc (suc zero)) h = refl
+agreeing-is-above (suc (suc (suc zero))) h = refl
+agreeing-is-above (suc (suc (suc (suc d)))) h = absurd (omega arith)
+
+one-code : short .supercodes 0 .left .generator ≡ generator short 0
+unfolding generator
+one-code = refl
+
+module _ (outer : RowDecoder) (encoded : RowEncoder) (Codeword : ℕ → List ℕ → Type 0) (laws : OuterLaws shortPage outer encoded Codeword) where
+  -- 01: "A written page is 252 bytes"
+  pub written-page-length : (bytes : List ℕ) → length (writtenPage shortPage encoded bytes) ≡ 252
+  unfolding writtenPage
+  written-page-length bytes = page-in-bytes-length shortPage (writtenRows shortPage encoded bytes)
+
+  -- demand 2: "A written page comes back wherever, at each level, twice the misread columns plus the unread ones stay within 30, 12, 6 and 4."
+  pub written-page-comes-back : (kind : Kind) (limit : ℕ) (bytes : List ℕ) → length bytes ≡ 150 → Below 256 bytes → (soft : List ℕ)
+      → WithinReach shortPage outer (shortReader kind limit) (columnsOf 63 (writtenRows shortPage encoded bytes)) (softColumns shortPage soft)
+      → (ls : List Level) × (n : ℕ) × (decoded short outer (shortReader kind limit) (softColumns shortPage soft) ≡ answered ls n)
+      × (rows ls ≡ writtenRows shortPage encoded bytes) × (bytesOfRows shortPage (rows ls) ≡ bytes)
+  written-page-comes-back kind limit bytes full are-bytes =
+      PageBack.written-soft-page-comes-back shortPage short-page-sound outer encoded Codeword laws (shortReader kind limit) bytes full are-bytes
+
+  -- 02, point 12: "if each soft value reads as the written bit, at any sureness, and no column is spent, the data comes back with no column changed"
+  pub clean-page-comes-back : (kind : Kind) (limit : ℕ) (bytes : List ℕ) → length bytes ≡ 150 → Below 256 bytes → (soft : List ℕ) → length soft ≡ 1890 → Soft soft
+      → ReadsAs short 0 (softColumns shortPage soft) (columnsOf 63 (writtenRows shortPage encoded bytes)) → NoColumnSpent short outer (shortReader kind limit) (softColumns shortPage soft)
+      → (ls : List Level) × (n : ℕ) × (decoded short outer (shortReader kind limit) (softColumns shortPage soft) ≡ answered ls n)
+      × (rows ls ≡ writtenRows shortPage encoded bytes) × (bytesOfRows shortPage (rows ls) ≡ bytes) × All (λ l. total (l .changed) ≡ 0) ls
+  clean-page-comes-back kind limit bytes full are-bytes soft long values-soft clean all-read =
+      CleanPages.clean-page-comes-back shortPage short-page-sound outer encoded Codeword laws (shortReader kind limit)
+      (searches-find-the-reading short Columns.searchable (λ i. values) (λ i. agreeing-is-above) limit kind) bytes (softColumns shortPage soft) (as-many-columns shortPage soft)
+      (columns-are-soft shortPage soft long values-soft) clean all-read full are-bytes
+
+-- demand 3 for pages, of every outer decoder
+module _ (outer : RowDecoder) (limit : ℕ) (page : List (List ℕ)) (none-spent : NoneSpent short outer (shortReader supercode limit) page) where
+  -- the dead paths ahead of the codewords of all column searches together
+  abbrev pub allDeadAhead : ℕ
+  allDeadAhead = sumBelow short outer (shortReader supercode limit) page (deadAhead short (λ i. values) limit) 4
+
+  pub decoders-agree : Agree allDeadAhead (decoded short outer (shortReader whole limit) page) (decoded short outer (shortReader supercode limit) page)
+  decoders-agree = DecodersAgree.decoders-agree short Columns.searchable one-code outer (λ i. values) limit page none-spent
+
+  pub column-searches-differ-by-the-dead-ahead : (i : ℕ) → i < 4 → (cs : List (List ℕ)) → Reaches short outer (shortReader supercode limit) page i cs
+      → Reaches short outer (shortReader whole limit) page i cs × All (λ c. Apart (deadAhead short (λ i. values) limit i c) (shortReader whole limit i c) (shortReader supercode limit i c)) cs
+  column-searches-differ-by-the-dead-ahead i h cs at = (
+    DecodersAgree.decoders-search-the-same-columns short Columns.searchable one-code outer (λ i. values) limit page none-spent i (omega arith) cs at,
+    DecodersAgree.column-searches-differ-by-the-dead-ahead short Columns.searchable one-code outer (λ i. values) limit page none-spent i h cs at,
+  )

@@ -1,0 +1,15 @@
+pub mod Soft
+pub mod Lists
+pub mod Format
+pub mod Data
+pub mod SoftPage
+pub mod Outer
+pub mod Decode
+pub mod Written
+pub mod Misread
+pub mod Readers
+pub mod Clean
+pub mod Flags
+pub mod Places
+pub mod Arrays
+pub mod OuterCode

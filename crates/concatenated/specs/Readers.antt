@@ -1,0 +1,70 @@
+-- The two readers of columns, and where two decoders agree. Assumes nothing.
+use mathlib.Core.Bool.{false}
+use mathlib.Core.List.{List, map}
+use mathlib.Core.Path.{_≡_}
+use Prim.Native.Nat.{ℕ, zero, suc, _+_, _<_}
+use Rattle.column.specs.Shape.{Shape, levels, short}
+use Rattle.paths.specs.Paths.{Path}
+use Rattle.paths.specs.Search.{Outcome, answer, limited-search}
+use Rattle.paths.specs.Search
+use Rattle.paths.specs.Dead.{dead-ahead}
+use Rattle.trellis.specs.Values.{Values, values}
+use Rattle.trellis.specs.Trellis.{wholeTrellis, supercodeTrellis, searched}
+use Rattle.trellis.specs.Demand.{Search as Kind, trellis}
+use Rattle.concatenated.specs.Lists.{All, sum}
+use Rattle.concatenated.specs.Outer.{RowDecoder}
+use Rattle.concatenated.specs.Decode.{Reading, found, spent, Reader, mark, State, going, stopped, Decoded, answered, refused, run, Reaches}
+
+-- 01: "a spent column counting the limit"
+unfoldable pub readingOf : ℕ → Outcome ℕ → Reading
+readingOf limit (answer w n) = found w n
+readingOf limit (Search.spent n) = spent limit
+
+-- 01: "with the whole search, or with the supercode search, for every column at every level"; the branch values may depend on the level
+unfoldable pub readerOf : Kind → Shape → (ℕ → Values) → ℕ → Reader
+readerOf kind S vs limit i c = readingOf limit (searched (trellis kind S (vs i) c i) limit)
+
+-- the dead paths ahead of the word that was found
+unfoldable pub deadOf : (Path → ℕ) → Outcome Path → ℕ
+deadOf dead (answer w n) = dead w
+deadOf dead (Search.spent n) = 0
+
+-- demand 3: the dead paths ahead of the codeword that the supercode search of the column returns
+unfoldable pub deadAhead : Shape → (ℕ → Values) → ℕ → ℕ → List ℕ → ℕ
+deadAhead S vs limit i c =
+    deadOf (dead-ahead (wholeTrellis S (vs i) c i) (supercodeTrellis S (vs i) c i)) (limited-search (supercodeTrellis S (vs i) c i) limit)
+
+-- two searches of a column with the same word, or both spent; the second takes d more paths
+abbrev pub Apart : ℕ → Reading → Reading → Type 0
+Apart d (found w m) (found v n) = (w ≡ v) × (n ≡ m + d)
+Apart d (found w m) (spent n) = ⊥
+Apart d (spent m) (found v n) = ⊥
+Apart d (spent m) (spent n) = n ≡ m + d
+
+-- demand 3: both answer with the same rows, changed and erased columns at each level, the second with d more steps; or both refuse with the same level
+abbrev pub Agree : ℕ → Decoded → Decoded → Type 0
+Agree d (answered ls m) (answered ks n) = (ls ≡ ks) × (n ≡ m + d)
+Agree d (answered ls m) (refused l) = ⊥
+Agree d (refused l) (answered ks n) = ⊥
+Agree d (refused l) (refused k) = l ≡ k
+
+-- what the columns of a state come to
+unfoldable pub sumOver : (List ℕ → ℕ) → State → ℕ
+sumOver f (going cs ls n) = sum (map f cs)
+sumOver f (stopped l) = 0
+
+module _ (S : Shape) (outer : RowDecoder) (read : Reader) (page : List (List ℕ)) where
+  -- demand 3: "no column spends its limit over two supercode trellises": at the levels above 0 that the decoder comes to, on its columns there
+  abbrev pub NoneSpent : Type 0
+  NoneSpent = (i : ℕ) → 0 < i → i < levels S → (cs : List (List ℕ)) → Reaches S outer read page i cs → All (λ c. mark (read i c) ≡ false) cs
+
+  -- what the columns of the levels below i come to, in the decoder's run
+  unfoldable pub sumBelow : (ℕ → List ℕ → ℕ) → ℕ → ℕ
+  sumBelow f zero = 0
+  sumBelow f (suc i) = sumBelow f i + sumOver (f i) (run S outer read page i)
+
+-- ---- the short page
+
+-- 01: "One table serves all levels."
+abbrev pub shortReader : Kind → ℕ → Reader
+shortReader kind = readerOf kind short (λ i. values)

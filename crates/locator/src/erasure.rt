@@ -1,0 +1,56 @@
+// The erased columns: how many, and what is left of the syndromes once their places are sifted out.
+use syndromes::syndrome;
+ghost use mathlib.Core.Path.{_≡_};
+ghost use Prim.Native.Nat.{ℕ, suc, _≤_, _<_};
+ghost use lib.Dec.{eqb};
+ghost use lib.ListN.{length};
+ghost use Rattle.poly.specs.Polynomial.{add};
+ghost use Rattle.field.specs.Element.{mul};
+ghost use Rattle.reedsolomon.specs.Words.{indicator, count};
+ghost use Rattle.reedsolomon.specs.Row.{symbol, Symbols, marked};
+ghost use Rattle.reedsolomon.specs.Steps.{Written, Stripped};
+
+// 1 for a mark, else 0
+fn one(mark: u8) -> u8
+    ensures { λ r. ⌜ r ≡ indicator (eqb mark 1) ⌝ }
+{
+    if mark == 1 { 1 } else { 0 }
+}
+
+// How many columns are marked.
+pub fn number(marks: &[u8]) -> usize
+    requires { ⌜ 63 ≤ length (now marks) ⌝ }
+    ensures { λ r. ⌜ r ≡ count (marked (now (marks .entry))) 63 ⌝ }
+{
+    let mut n: u8 = 0;
+    for j in 0..63 {
+        n += one(marks[j]);
+    }
+    n as usize
+}
+
+// The place y is sifted out of the first 33 entries of s.
+pub fn sift(s: &mut [u8], y: u8)
+    requires { ⌜ 32 < length (now s) ⌝ }
+    ensures { λ r. ⌜ Written 32 (λ (i : ℕ). add (symbol (now (s .entry)) (suc i)) (mul 6 67 y (symbol (now (s .entry)) i))) (now (s .entry)) (now (s .exit)) ⌝ }
+{
+    for i in 0..32 {
+        s[i] = s[i + 1] ^ field::product(y, s[i]);
+    }
+}
+
+// The places of the n marked columns are sifted out of s.
+pub fn strip(s: &mut [u8], marks: &[u8], n: usize)
+    requires { ⌜ (32 < length (now s)) × (63 ≤ length (now marks)) × Symbols 6 (now s) × (n ≡ count (marked (now marks)) 63) ⌝ }
+    ensures { λ r. ⌜ Stripped 6 67 63 33 (now (marks .entry)) (now (s .entry)) (now (s .exit)) ⌝ }
+{
+    if n == 0 {
+        return;
+    }
+    let all = syndrome::places();
+    for j in 0..63 {
+        if marks[j] == 1 {
+            sift(s, all[j]);
+        }
+    }
+}

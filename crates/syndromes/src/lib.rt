@@ -1,0 +1,4 @@
+// Rows: the remainder that a row is coded with, and the syndromes of a row. Rows are kept in blocks of 16 symbols, which a processor works on at once.
+pub mod encoder;
+pub mod lists;
+pub mod syndrome;

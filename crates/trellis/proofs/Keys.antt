@@ -1,0 +1,148 @@
+-- The search on keys with tables of masks is the search on the trellis's paths. Assumes nothing.
+use mathlib.Core.Bool.{Bool, true, false, _&&_}
+use mathlib.Core.List.{List, [], _∷_}
+use mathlib.Core.Logic.{_↔_, _⊎_, inl, inr, ⊎-elim}
+use mathlib.Core.Path.{_≡_, refl, sym, ap, ap₂, _∙_, subst⁻¹}
+use Prim.Native.Nat.{ℕ, suc, _+_, _-_, _*_, _%_, _≤_, _<_}
+use native.Mathlib.Omega.{arith}
+use lib.Bits.{and-zero-r}
+use lib.Count.{ones}
+use lib.Dec.{eqb}
+use lib.IntN.{pos}
+use lib.ListN.{length, getD}
+use borrow.Author.Tests.{eqb-true, eq-eqb}
+use Rattle.poly.specs.Polynomial.{Degree}
+use Rattle.column.specs.Shape.{Code, Shape, Sound as ShapeSound, levels, levelCode}
+use Rattle.column.specs.Trellis.{Exists}
+use Rattle.column.specs.Mask.{parity, maskOf, MasksOf}
+use Rattle.column.proofs.Begins.{zero-exists}
+use Rattle.column.proofs.Checks.{extension-exists}
+use Rattle.column.proofs.Supercodes.{Split}
+use Rattle.paths.specs.Paths.{Path}
+use Rattle.paths.specs.Stack.{extend}
+use Rattle.paths.specs.Tree.{Tree, Sound, is-full, Exists as InTree}
+use Rattle.paths.specs.Search.{Outcome, answer, spent, limited-search}
+use Rattle.paths.specs.Keys.{KeysOf, with-key, stack-after}
+use Rattle.paths.proofs.Booleans.{and-both}
+use Rattle.paths.proofs.Keys.{search-on-keys-is-search-on-paths, stack-after-length}
+use Rattle.paths.proofs.Stack.{extend-length}
+use Rattle.trellis.specs.Values.{Values}
+use Rattle.trellis.specs.Order.{bit, number, sum, before}
+use Rattle.trellis.specs.Keys.{Key, key, keyOf, keyExtension, keyPasses, keyNodes, keySearch}
+use Rattle.trellis.specs.Trellis.{existsIn, wholeTrellis, supercodeTrellis, searched}
+use Rattle.trellis.proofs.Order.{before-keys, bit-below}
+use Rattle.trellis.proofs.Existence.{exists-exactly}
+
+bool-ext : (a b : Bool) → (a ≡ true → b ≡ true) → (b ≡ true → a ≡ true) → a ≡ b
+bool-ext true b f g = sym (f refl)
+bool-ext false true f g = g refl
+bool-ext false false f g = refl
+
+and-true : (a : Bool) → (a && true) ≡ a
+and-true true = refl
+and-true false = refl
+
+-- the newest bit of p passes a table's check
+passes : List ℕ → Path → Bool
+passes masks p = eqb (parity (getD masks (length p - 1) 0) (number p)) 0
+
+-- ---- one code
+
+module _ (n : ℕ) (C : Code) (deg : Degree (C .degree) (C .generator)) (masks : List ℕ) (masks-of : MasksOf n C masks) where
+  -- after a path that exists, the check of the newest bit says whether the longer one does
+  passes-is-exists : (b : Bool) (p : Path) → (p ≡ []) ⊎ (existsIn n C p ≡ true) → length p < n → passes masks (b ∷ p) ≡ existsIn n C (b ∷ p)
+  unfolding passes number
+  passes-is-exists b p parent l =
+      bool-ext (passes masks (b ∷ p)) (existsIn n C (b ∷ p))
+      (λ e. exists-exactly n C deg (b ∷ p) .1 (l, longer .1 (begun parent, sym mask ∙ eqb-true (parity (getD masks (suc (length p) - 1) 0) (number p * 2 + bit b)) 0 e)))
+      (λ e. eq-eqb (parity (getD masks (suc (length p) - 1) 0) (number p * 2 + bit b)) 0 (mask ∙ longer .0 (exists-exactly n C deg (b ∷ p) .0 e .1) .1))
+    where
+      longer : Exists n C (suc (length p)) (number p * 2 + bit b) ↔ (Exists n C (length p) (number p) × (parity (maskOf n C (suc (length p))) (number p * 2 + bit b) ≡ 0))
+      longer = extension-exists n C deg (length p) (number p) (bit b) l (bit-below b)
+
+      newest : suc (length p) - 1 ≡ length p
+      newest = omega arith
+
+      mask : parity (getD masks (suc (length p) - 1) 0) (number p * 2 + bit b) ≡ parity (maskOf n C (suc (length p))) (number p * 2 + bit b)
+      mask = ap (λ (m : ℕ). parity m (number p * 2 + bit b)) (ap (λ (k : ℕ). getD masks k 0) newest ∙ masks-of (length p) l)
+
+      begun : (p ≡ []) ⊎ (existsIn n C p ≡ true) → Exists n C (length p) (number p)
+      begun (inl e) = subst⁻¹ (λ (q : Path). Exists n C (length q) (number q)) e (zero-exists n C 0)
+      begun (inr e) = exists-exactly n C deg p .0 e .1
+
+-- a mask that takes nothing
+passes-nothing : (n : ℕ) (masks : List ℕ) → ((k : ℕ) → k < n → getD masks k 0 ≡ 0) → (b : Bool) (p : Path) → length p < n → passes masks (b ∷ p) ≡ true
+unfolding passes parity ones
+passes-nothing n masks none b p l = ap (λ (m : ℕ). eqb (parity m (number (b ∷ p))) 0) mask ∙ ap (λ (m : ℕ). eqb (ones m % 2) 0) (and-zero-r (number (b ∷ p)))
+  where
+    newest : suc (length p) - 1 ≡ length p
+    newest = omega arith
+
+    mask : getD masks (suc (length p) - 1) 0 ≡ 0
+    mask = ap (λ (k : ℕ). getD masks k 0) newest ∙ none (length p) l
+
+-- ---- the two trellises
+
+module _ (vs : Values) (soft left right : List ℕ) where
+  -- whatever the tree, its order and length given
+  keys-of : (t : Tree) → t .before ≡ before vs soft
+      → ((b : Bool) (p : Path) → (p ≡ []) ⊎ (t .exists p ≡ true) → length p < t .size → (passes left (b ∷ p) && passes right (b ∷ p)) ≡ t .exists (b ∷ p))
+      → KeysOf t (keyNodes (t .size) vs soft left right) (keyOf vs soft)
+  unfolding keyOf keyExtension keyPasses passes is-full sum number
+  keys-of t same-order exists = record {
+    same-extension = λ b p. refl;
+    same-order = λ p q. sym (before-keys vs soft p q) ∙ ap (λ (order : Path → Path → Bool). order p q) (sym same-order);
+    same-full = λ p. refl;
+    same-exists = λ b p parent l. exists b p (⊎-elim (λ e. inl e) (λ (e : InTree t p). inr (e .in-tree)) parent) l;
+  }
+
+  module _ (S : Shape) (i : ℕ) where
+    -- the level's masks on the left, and on the right masks that take nothing
+    module _ (sound : ShapeSound S) (level : i < levels S) (left-of : MasksOf (S .bits) (levelCode S i) left) (none : (k : ℕ) → k < S .bits → getD right k 0 ≡ 0) where
+      pub keys-of-whole : KeysOf (wholeTrellis S vs soft i) (keyNodes (S .bits) vs soft left right) (keyOf vs soft)
+      keys-of-whole =
+          keys-of (wholeTrellis S vs soft i) refl
+          (λ b p parent l.
+          ap₂ _&&_ (passes-is-exists (S .bits) (levelCode S i) (sound .degrees i level) left left-of b p parent l) (passes-nothing (S .bits) right none b p l)
+          ∙ and-true (existsIn (S .bits) (levelCode S i) (b ∷ p)))
+
+    -- the masks of the two supercodes
+    module _ (split : Split S i) (left-of : MasksOf (S .bits) (S .supercodes i .left) left) (right-of : MasksOf (S .bits) (S .supercodes i .right) right) where
+      pub keys-of-supercode : KeysOf (supercodeTrellis S vs soft i) (keyNodes (S .bits) vs soft left right) (keyOf vs soft)
+      keys-of-supercode =
+          keys-of (supercodeTrellis S vs soft i) refl
+          (λ b p parent l.
+          ap₂ _&&_
+          (passes-is-exists (S .bits) (S .supercodes i .left) (split .left-degree) left left-of b p (⊎-elim (λ e. inl e) (λ e. inr (both p e .0)) parent) l)
+          (passes-is-exists (S .bits) (S .supercodes i .right) (split .right-degree) right right-of b p (⊎-elim (λ e. inl e) (λ e. inr (both p e .1)) parent) l))
+        where
+          both : (p : Path) → supercodeTrellis S vs soft i .exists p ≡ true → (existsIn (S .bits) (S .supercodes i .left) p ≡ true) × (existsIn (S .bits) (S .supercodes i .right) p ≡ true)
+          both p e = and-both (existsIn (S .bits) (S .supercodes i .left) p) (existsIn (S .bits) (S .supercodes i .right) p) e
+
+-- ---- the search
+
+-- the outcome with the word's bits
+abbrev pub by-bits : Outcome Key → Outcome ℕ
+by-bits (answer k c) = answer (k .bits) c
+by-bits (spent c) = spent c
+
+module _ (vs : Values) (soft left right : List ℕ) (t : Tree) (sound : Sound t) (keys : KeysOf t (keyNodes (t .size) vs soft left right) (keyOf vs soft)) where
+  pub key-search-has-the-keys : (limit : ℕ) → keySearch (t .size) vs soft left right limit ≡ with-key (keyOf vs soft) (limited-search t limit)
+  unfolding keySearch limited-search keyOf sum number
+  key-search-has-the-keys limit = search-on-keys-is-search-on-paths t (keyNodes (t .size) vs soft left right) (keyOf vs soft) keys sound (λ k. true) limit
+
+  -- the search on keys is the search
+  pub key-search-is-search : (limit : ℕ) → by-bits (keySearch (t .size) vs soft left right limit) ≡ searched t limit
+  unfolding with-key keyOf
+  key-search-is-search limit = ap by-bits (key-search-has-the-keys limit) ∙ bits-of (limited-search t limit)
+    where
+      bits-of : (o : Outcome Path) → by-bits (with-key (keyOf vs soft) o) ≡ with-key number o
+      bits-of (answer w c) = refl
+      bits-of (spent c) = refl
+
+-- after k steps the stack of keys holds at most k + 2
+pub key-stack-holds-at-most-k-plus-two : (n : ℕ) (vs : Values) (soft left right : List ℕ) (k : ℕ)
+    → length (stack-after (keyNodes n vs soft left right) k (extend (keyNodes n vs soft left right) (key (pos 0) 0 0) [])) ≤ k + 2
+key-stack-holds-at-most-k-plus-two n vs soft left right k =
+    let N = keyNodes n vs soft left right in
+    omega (arith, stack-after-length N k (extend N (key (pos 0) 0 0) []), extend-length N (key (pos 0) 0 0) [])

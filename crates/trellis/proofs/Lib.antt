@@ -1,0 +1,9 @@
+pub mod Strict
+pub mod Order
+pub mod Existence
+pub mod Sound
+pub mod Keys
+pub mod Demand
+pub mod Counts
+pub mod Short
+pub mod ZeroColumn

@@ -1,0 +1,56 @@
+-- What the code knows of a path: its sum, its length and its bits as a number. Assumes nothing.
+use mathlib.Core.Bool.{Bool, true, _&&_}
+use mathlib.Core.List.{List, []}
+use Prim.Native.Nat.{ℕ, suc, _+_, _-_, _*_}
+use lib.Dec.{eqb, ltb}
+use lib.IntN.{ℤ, pos, _+ℤ_}
+use lib.ListN.{length, getD}
+use lib.Signed.{ltZ}
+use Rattle.column.specs.Mask.{parity}
+use Rattle.paths.specs.Paths.{Path}
+use Rattle.paths.specs.Stack.{Nodes, extend}
+use Rattle.paths.specs.Search.{Outcome}
+use Rattle.paths.specs.Keys.{run-keys}
+use Rattle.trellis.specs.Values.{Values, branch}
+use Rattle.trellis.specs.Order.{bit, number, sum, firstBy}
+
+pub record Key : Type 0 where
+  pub sum : ℤ
+  pub len : ℕ
+  pub bits : ℕ
+
+abbrev pub key : ℤ → ℕ → ℕ → Key
+key s l b = record { sum = s; len = l; bits = b }
+
+-- the key of a path
+unfoldable pub keyOf : Values → List ℕ → Path → Key
+keyOf vs soft p = key (sum vs soft p) (length p) (number p)
+
+-- the order on keys: for equal lengths, 0 at the first bit where they differ is the smaller number
+unfoldable pub keyBefore : Key → Key → Bool
+keyBefore p q =
+    firstBy (ltZ (q .sum) (p .sum)) (ltZ (p .sum) (q .sum))
+    (firstBy (ltb (q .len) (p .len)) (ltb (p .len) (q .len))
+    (ltb (p .bits) (q .bits)))
+
+-- one bit more
+unfoldable pub keyExtension : Values → List ℕ → Bool → Key → Key
+keyExtension vs soft b k = key (k .sum +ℤ branch vs (bit b) (getD soft (k .len) 0)) (suc (k .len)) (k .bits * 2 + bit b)
+
+-- the newest bit passes the checks of two tables of masks
+unfoldable pub keyPasses : List ℕ → List ℕ → Key → Bool
+keyPasses left right k = eqb (parity (getD left (k .len - 1) 0) (k .bits)) 0 && eqb (parity (getD right (k .len - 1) 0) (k .bits)) 0
+
+-- the nodes of the search on keys, for words of n bits
+abbrev pub keyNodes : ℕ → Values → List ℕ → List ℕ → List ℕ → Nodes Key
+keyNodes n vs soft left right = record {
+  extension = keyExtension vs soft;
+  before = keyBefore;
+  exists = keyPasses left right;
+  full = λ k. eqb (k .len) n;
+}
+
+-- the search on keys
+unfoldable pub keySearch : ℕ → Values → List ℕ → List ℕ → List ℕ → ℕ → Outcome Key
+keySearch n vs soft left right limit =
+    run-keys (keyNodes n vs soft left right) (λ k. true) limit 0 (extend (keyNodes n vs soft left right) (key (pos 0) 0 0) [])
