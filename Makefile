@@ -3,6 +3,7 @@
 
 test: tools listed
 	@tests/run-vectors tests/vectors tests/libfec tests/known
+	@tests/run-station
 	@rt ci
 
 run: tools
@@ -12,7 +13,7 @@ run: tools
 
 # what the two commands need on the machine
 tools:
-	@for tool in rt gcc; do command -v $$tool > /dev/null || { echo "missing tool: $$tool"; exit 1; }; done
+	@for tool in rt gcc g++; do command -v $$tool > /dev/null || { echo "missing tool: $$tool"; exit 1; }; done
 
 # every crate folder stands in crates.txt
 listed:

@@ -1,0 +1,66 @@
+/* One page of a station: weights are written, the page wears, its bits are read as eight levels, and the weights come back. Compiles as C and as C++. */
+#include "station.h"
+#include <stdio.h>
+#include <string.h>
+
+enum { COLUMN_BITS = 30, COLUMN_BYTES = 4, RECORD = 25, RECORDS = STATION_DATA_LEN / RECORD };
+
+/* A fixed sequence of numbers that look random. */
+static uint32_t next(uint32_t *state) {
+    *state = *state * 1664525u + 1013904223u;
+    return *state >> 8;
+}
+
+/* Six records of 25 bytes: a pen, the weight stocked and the weight gained. */
+static void weigh(uint8_t data[STATION_DATA_LEN]) {
+    uint32_t state = 7;
+    for (unsigned pen = 0; pen < RECORDS; pen++) {
+        unsigned stock = next(&state) % 100000, gain = next(&state) % 100;
+        char line[RECORD + 1];
+        snprintf(line, sizeof line, "pen %u stock %05u gain %02u", pen % 10, stock, gain);
+        memcpy(data + RECORD * pen, line, RECORD);
+    }
+}
+
+/* Bit k of the page, column after column: a column's 30 bits stand at the top of its four bytes. */
+static int written_bit(const uint8_t page[STATION_PAGE_LEN], int k) {
+    int column = k / COLUMN_BITS, bit = k % COLUMN_BITS;
+    return page[COLUMN_BYTES * column + bit / 8] >> (7 - bit % 8) & 1;
+}
+
+/* Reads a worn page. Of a thousand bits some 10 are read wrongly and surely, 20 wrongly and weakly, 100 rightly and weakly, the others rightly and surely.
+   Gives how many were read wrongly. */
+static int read_worn(const uint8_t page[STATION_PAGE_LEN], uint8_t soft[STATION_SOFT_LEN]) {
+    uint32_t state = 1;
+    int wrong = 0;
+    for (int k = 0; k < STATION_SOFT_LEN; k++) {
+        uint32_t luck = next(&state) % 1000;
+        int misread = luck < 30, weak = luck >= 10 && luck < 130;
+        int sureness = weak ? (int)(luck % 2) : 3;
+        int bit = written_bit(page, k) ^ misread;
+        soft[k] = (uint8_t)(bit ? 4 + sureness : 3 - sureness);
+        wrong += misread;
+    }
+    return wrong;
+}
+
+static int refused(const char *call, uint64_t result) {
+    if (station_number(result) == STATION_OK) return 0;
+    printf("%s refused %u place %lu\n", call, station_number(result), (unsigned long)station_place(result));
+    return 1;
+}
+
+int main(void) {
+    uint8_t data[STATION_DATA_LEN], page[STATION_PAGE_LEN], soft[STATION_SOFT_LEN], back[STATION_DATA_LEN], report[STATION_REPORT_LEN];
+    weigh(data);
+    if (refused("encode", station_encode_page(data, sizeof data, page, sizeof page))) return 1;
+    printf("%d of %d bits read wrongly\n", read_worn(page, soft), STATION_SOFT_LEN);
+    if (refused("decode", station_decode_page(soft, sizeof soft, back, sizeof back, report, sizeof report))) return 1;
+    printf("steps %lu\n", (unsigned long)station_steps(report));
+    for (unsigned level = 0; level < STATION_LEVELS; level++)
+        printf("level %u changed %u erased %u\n", level, station_changed(report, level), station_erased(report, level));
+    for (int i = 0; i < RECORDS; i++) printf("%.*s\n", RECORD, (const char *)back + RECORD * i);
+    int same = !memcmp(data, back, sizeof data);
+    puts(same ? "the data are as written" : "the data differ");
+    return !same;
+}

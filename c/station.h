@@ -1,0 +1,93 @@
+/* station.h: the station's C interface to the soft page store.
+
+   A page holds 150 bytes of data in 63 columns of 30 bits. Three calls serve it:
+
+       station_encode_page   data       -> written page
+       station_read_dump     chip dump  -> soft page
+       station_decode_page   soft page  -> data and a report
+
+   BUFFERS. Each is passed as a pointer and a length in bytes and stays the caller's; nothing is kept after the call. The pointer is valid for
+   that length; with length 0 it may be NULL. An output may not overlap another buffer of the call.
+
+   RESULT. 0 is success. Else it is number + 256 * place: the number of the first question that was answered no, and where. A refused call
+   changes no byte of any buffer. The questions are asked in this order:
+
+       STATION_INPUT_LENGTH    1   has the input the stated length?
+       STATION_OUTPUT_LENGTH   2   has every output the stated length?
+       STATION_FIXED_BYTES     7   are a dump block's fixed and zero bytes right?    place: the block, 0..3
+       STATION_CHECK           8   is its check right? (7 and 8 go block by block)   place: the block, 0..3
+       STATION_VALUE           5   is each soft value 0..7?                          place: the first bad one in the soft page, 0..1889
+       STATION_NO_WORD        10   is there an outer word in reach?                  place: the level, 0..3
+
+   The place is 0 where none is named.
+
+   THREADS. The calls have no state and allocate nothing; they may run at the same time on different buffers.
+
+   STACK. As measured on x86-64, station_decode_page takes some 27 KB and the others up to 4 KB.
+
+   The archive is libstation.a, made by `rt staticlib station`; it needs no other library. */
+#ifndef STATION_H
+#define STATION_H
+
+#include <stddef.h>
+#include <stdint.h>
+
+#ifdef __cplusplus
+extern "C" {
+#endif
+
+/* Lengths in bytes, and the number of levels. */
+enum {
+    STATION_DATA_LEN = 150,
+    STATION_PAGE_LEN = 252,
+    STATION_SOFT_LEN = 1890,
+    STATION_DUMP_LEN = 2048,
+    STATION_REPORT_LEN = 12,
+    STATION_LEVELS = 4
+};
+
+/* Numbers of refusals. */
+enum {
+    STATION_OK = 0,
+    STATION_INPUT_LENGTH = 1,
+    STATION_OUTPUT_LENGTH = 2,
+    STATION_VALUE = 5,
+    STATION_FIXED_BYTES = 7,
+    STATION_CHECK = 8,
+    STATION_NO_WORD = 10
+};
+
+/* Codes STATION_DATA_LEN bytes of data as a written page of STATION_PAGE_LEN bytes: four bytes a column, 30 bits from the top and two zeros.
+   Refused by 1 and 2. */
+uint64_t station_encode_page(const uint8_t *data, size_t data_len, uint8_t *page, size_t page_len);
+
+/* Decodes a soft page of STATION_SOFT_LEN values, 30 a column; 0..3 read as bit 0 and 4..7 as bit 1, 0 and 7 being the surest. Each column is
+   searched for at most 500 steps; a column that has no word by then counts as erased. Gives STATION_DATA_LEN bytes of data and a report of
+   STATION_REPORT_LEN bytes, which station_steps, station_changed and station_erased read. Refused by 1, 2, 5 and 10. */
+uint64_t station_decode_page(const uint8_t *soft, size_t soft_len, uint8_t *data, size_t data_len, uint8_t *report, size_t report_len);
+
+/* Reads the soft page of STATION_SOFT_LEN values out of a dump of STATION_DUMP_LEN bytes, four blocks of 512. Refused by 1, 2, 7, 8 and 5. */
+uint64_t station_read_dump(const uint8_t *dump, size_t dump_len, uint8_t *soft, size_t soft_len);
+
+/* The number of a result: STATION_OK or that of the refusal. */
+static inline unsigned station_number(uint64_t result) { return (unsigned)(result % 256); }
+
+/* The place of a result. */
+static inline uint64_t station_place(uint64_t result) { return result / 256; }
+
+/* The steps that the searches of a page took together. */
+static inline uint32_t station_steps(const uint8_t report[STATION_REPORT_LEN]) {
+    return (uint32_t)report[0] << 24 | (uint32_t)report[1] << 16 | (uint32_t)report[2] << 8 | report[3];
+}
+
+/* How many columns the row of a level, below STATION_LEVELS, changed; erased ones are not among them. */
+static inline unsigned station_changed(const uint8_t report[STATION_REPORT_LEN], unsigned level) { return report[4 + 2 * level]; }
+
+/* How many columns of a level, below STATION_LEVELS, were erased. */
+static inline unsigned station_erased(const uint8_t report[STATION_REPORT_LEN], unsigned level) { return report[5 + 2 * level]; }
+
+#ifdef __cplusplus
+}
+#endif
+
+#endif

@@ -1,0 +1,63 @@
+-- The page decoding entry at its returns: what was asked and done settles what it returns and leaves. Assumes nothing.
+use mathlib.Core.Bool.{Bool, true}
+use mathlib.Core.List.{List, _++_, append-nil}
+use mathlib.Core.Path.{_≡_, sym, ap, ap₂, _∙_, subst⁻¹}
+use Prim.Native.Nat.{ℕ}
+use native.Mathlib.Omega.{arith}
+use borrow.Author.Tests.{eq-eqb, ne-eqb}
+use lib.Dec.{eqb}
+use lib.ListN.{length, take, drop}
+use lib.Seq.{take-all, drop-length}
+use Rattle.trellis.specs.Demand.{supercode}
+use Rattle.page.specs.declared.pages.PageOutcome.{PageOutcome}
+use Rattle.store.specs.Questions.{ask}
+use Rattle.store.specs.Pages.{PageDecoded, refusedPage, askPage}
+use Rattle.station.specs.Returned.{returned}
+use Rattle.station.specs.Report.{reportOf}
+use Rattle.station.specs.PageReturned.{PageReturned, limit, askDecode, decodeAnswer, reportAfter}
+use Rattle.station.proofs.Places.{SmallPage, page-small}
+
+-- what page decoding answers fits in what the entry returns
+pub small : (soft bytes : List ℕ) (o : PageOutcome) (new : List ℕ) → PageDecoded supercode soft limit bytes o new → SmallPage o
+small soft bytes o new page = subst⁻¹ SmallPage (page .answer) (page-small supercode soft limit bytes)
+
+-- two questions that were answered yes
+passed : {A : Type 0} (t u : Bool) (first second next : A) → t ≡ true → u ≡ true → ask t first (ask u second next) ≡ next
+passed t u first second next e f = ap (λ (x : Bool). ask x first (ask u second next)) e ∙ ap (λ (x : Bool). ask x second next) f
+
+module _ (soft bytes report : List ℕ) where
+  lengths-right : {A : Type 0} → length soft ≡ 1890 → length report ≡ 12 → (refusal : ℕ → ℕ → A) (next : A) → askDecode soft bytes report refusal next ≡ askPage soft limit bytes refusal next
+  lengths-right long room refusal next = passed (eqb (length soft) 1890) (eqb (length report) 12) (refusal 1 0) (refusal 2 0) (askPage soft limit bytes refusal next) (eq-eqb _ _ long) (eq-eqb _ _ room)
+
+  pub refused-by-soft-length : (length soft ≡ 1890 → ⊥) → {r : ℕ} → r ≡ returned 1 0 → PageReturned soft bytes report r bytes report
+  refused-by-soft-length short e = record { answer = simp (ne-eqb _ _ short) e; bytes-are = simp (ne-eqb _ _ short); report-is = simp (ne-eqb _ _ short) }
+
+  module _ (long : length soft ≡ 1890) where
+    pub refused-by-report-length : (length report ≡ 12 → ⊥) → {r : ℕ} → r ≡ returned 2 0 → PageReturned soft bytes report r bytes report
+    refused-by-report-length short e =
+        record {
+          answer = simp (eq-eqb _ _ long, ne-eqb _ _ short) e;
+          bytes-are = simp (eq-eqb _ _ long, ne-eqb _ _ short);
+          report-is = simp (eq-eqb _ _ long, ne-eqb _ _ short);
+        }
+
+    module _ (room : length report ≡ 12) (o : PageOutcome) (new : List ℕ) (page : PageDecoded supercode soft limit bytes o new) where
+      decoded : {r : ℕ} → r ≡ returned (o .number) (o .place) → (newReport : List ℕ) → newReport ≡ reportAfter report o → PageReturned soft bytes report r new newReport
+      decoded e newReport is =
+          let same : o ≡ decodeAnswer soft bytes report = page .answer ∙ sym (lengths-right long room refusedPage _) in
+          record {
+            answer = e ∙ ap (λ (x : PageOutcome). returned (x .number) (x .place)) same;
+            bytes-are = page .bytes ∙ sym (lengths-right long room (λ n p. bytes) _);
+            report-is = is ∙ ap (reportAfter report) same;
+          }
+
+      pub refused : {r : ℕ} → (o .number ≡ 0 → ⊥) → r ≡ returned (o .number) (o .place) → PageReturned soft bytes report r new report
+      refused no-answer e = decoded e report (simp (ne-eqb _ _ no-answer))
+
+      pub answered : {r : ℕ} → o .number ≡ 0 → r ≡ returned (o .number) (o .place) → (newReport : List ℕ) → newReport ≡ reportOf o → PageReturned soft bytes report r new newReport
+      answered done e newReport is = decoded e newReport (simp (eq-eqb _ _ done) is)
+
+-- what a copy of the report's bytes leaves in a buffer of their length
+pub all-copied : (made old : List ℕ) → length made ≡ length old → take (length made) made ++ drop (length made) old ≡ made
+all-copied made old e =
+    ap₂ (λ (x y : List ℕ). x ++ y) (take-all (length made) made (omega arith)) (ap (λ (k : ℕ). drop k old) e ∙ drop-length old) ∙ append-nil made

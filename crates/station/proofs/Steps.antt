@@ -1,0 +1,83 @@
+-- The steps of a page fit in the report's four bytes, so that the report gives them back. Assumes nothing.
+use mathlib.Core.List.{List, [], _∷_, map}
+use mathlib.Core.Path.{_≡_}
+use Prim.Native.Nat.{ℕ, zero, suc, _+_, _*_, _/_, _%_, _≤_, _<_}
+use native.Mathlib.Omega.{arith}
+use lib.Dec.{eqb}
+use lib.ListN.{length}
+use Rattle.column.specs.Shape.{Shape, levels, short}
+use Rattle.trellis.specs.Demand.{supercode}
+use Rattle.concatenated.specs.Lists.{sum}
+use Rattle.concatenated.specs.Format.{shortPage}
+use Rattle.concatenated.specs.SoftPage.{softColumns}
+use Rattle.concatenated.specs.Outer.{RowAnswer, row, none, RowDecoder}
+use Rattle.concatenated.specs.OuterCode.{shortOuter}
+use Rattle.concatenated.specs.Readers.{shortReader}
+use Rattle.concatenated.specs.Decode.{Reader, Level, State, going, stopped, count, steps, rowOff, decodedRow, settle, onward, run, outcome, decoded}
+use Rattle.page.specs.Outcomes.{outcomeOf}
+use Rattle.page.specs.declared.pages.PageOutcome.{PageOutcome}
+use Rattle.readings.proofs.RowReading.{count-within-the-limit}
+use Rattle.concatenated.proofs.SoftPages.{as-many-columns}
+use Rattle.store.specs.Pages.{refusedPage, decodedPage}
+use Rattle.station.specs.Report.{reportOf, stepsIn}
+use Rattle.station.specs.PageReturned.{limit, decodeAnswer}
+use Rattle.station.proofs.Places.{either, every-way}
+
+row-off-within : (S : Shape) (i : ℕ) (r : List ℕ) (cs : List (List ℕ)) → length (rowOff S i r cs) ≤ length cs
+unfolding rowOff
+row-off-within S i [] cs = omega arith
+row-off-within S i (s ∷ r) [] = omega arith
+row-off-within S i (s ∷ r) (c ∷ cs) = omega (arith, row-off-within S i r cs)
+
+-- a run up to level k: at most 63 columns, and at most 500 steps for each of them at each level
+abbrev Within : ℕ → State → Type 0
+Within k (going cs ls n) = (length cs ≤ 63) × (n ≤ 31500 * k)
+Within k (stopped l) = Unit {0}
+
+module _ (S : Shape) (outer : RowDecoder) (read : Reader) (few : (i : ℕ) (c : List ℕ) → i < levels S → count (read i c) ≤ 500) (page : List (List ℕ)) (wide : length page ≤ 63) where
+  steps-within : (i : ℕ) → i < levels S → (cs : List (List ℕ)) → steps (map (read i) cs) ≤ 500 * length cs
+  unfolding sum
+  steps-within i h [] = omega arith
+  steps-within i h (c ∷ cs) = omega (arith, few i c h, steps-within i h cs)
+
+  settled-within : (i : ℕ) → i < levels S → (cs : List (List ℕ)) (ls : List Level) (n : ℕ) → Within i (going cs ls n) → (a : RowAnswer) → Within (suc i) (settle S outer i cs (map (read i) cs) ls n a)
+  unfolding settle
+  settled-within i h cs ls n w none = tt
+  settled-within i h cs ls n w (row r) = (omega (arith, row-off-within S i r cs, w .0), omega (arith, steps-within i h cs, w .0, w .1))
+
+  onward-within : (i : ℕ) → i < levels S → (x : State) → Within i x → Within (suc i) (onward S outer read i x)
+  unfolding onward
+  onward-within i h (stopped l) w = tt
+  onward-within i h (going cs ls n) w = settled-within i h cs ls n w (decodedRow S outer i (map (read i) cs))
+
+  run-within : (i : ℕ) → i ≤ levels S → Within i (run S outer read page i)
+  unfolding run
+  run-within zero h = (wide, omega arith)
+  run-within (suc i) h = onward-within i h (run S outer read page i) (run-within i (omega arith))
+
+  outcome-within : (k : ℕ) → k ≤ 4 → (x : State) → Within k x → outcomeOf (outcome x) .steps ≤ 126000
+  unfolding outcome outcomeOf
+  outcome-within k h (going cs ls n) w = omega (arith, w .1)
+  outcome-within k h (stopped l) w = omega arith
+
+  decoded-within : levels S ≤ 4 → outcomeOf (decoded S outer read page) .steps ≤ 126000
+  unfolding decoded
+  decoded-within h = outcome-within (levels S) h (run S outer read page (levels S)) (run-within (levels S) (omega arith))
+
+abbrev pub FewSteps : PageOutcome → Type 0
+FewSteps o = o .steps ≤ 126000
+
+-- 01: "all counts summed, a spent column counting the limit": 63 columns at four levels, 500 each
+pub steps-are-few : (soft bytes report : List ℕ) → FewSteps (decodeAnswer soft bytes report)
+steps-are-few soft bytes report =
+    either FewSteps (eqb (length soft) 1890) _ _ (omega arith)
+    (either FewSteps (eqb (length report) 12) _ _ (omega arith)
+    (every-way FewSteps soft limit bytes refusedPage (outcomeOf (decodedPage supercode soft limit)) (λ n p small. omega arith)
+    (decoded-within short shortOuter (shortReader supercode limit) (λ i c h. count-within-the-limit supercode limit i h c) (softColumns shortPage soft) (omega (arith, as-many-columns shortPage soft)) (omega arith))))
+
+four-digits : (n : ℕ) → n ≤ 126000 → ((n / 16777216 % 256 * 256 + n / 65536 % 256) * 256 + n / 256 % 256) * 256 + n % 256 ≡ n
+four-digits n h = omega arith
+
+-- the report's first four bytes are the steps
+pub report-holds-the-steps : (soft bytes report : List ℕ) → stepsIn (reportOf (decodeAnswer soft bytes report)) ≡ decodeAnswer soft bytes report .steps
+report-holds-the-steps soft bytes report = four-digits (decodeAnswer soft bytes report .steps) (steps-are-few soft bytes report)

@@ -1,0 +1,85 @@
+-- `station::station_decode_page` meets its contract: each return by what was asked on the way to it. Assumes nothing.
+use mathlib.Core.Path.{_≡_, sym, ap, _∙_}
+use lib.ListN.{length}
+use Rattle.station.proofs.PageReturns.{refused-by-soft-length, refused-by-report-length, small, refused, answered, all-copied}
+use native.Mathlib.Omega.{arith}
+use borrow.Author.Needs.{needs}
+use Rattle.station.proofs.station_decode_page.Statement.{statement}
+use Rattle.station.proofs.station_decode_page.Tie as tie
+
+returned-number-requires : tie.Need-returned-number-requires
+returned-number-requires c κs = (omega arith, omega arith)
+
+returns : tie.Need-returns
+returns c = refused-by-soft-length _ _ _ (c .before .if1 .taken) (c .returned-number .ensures)
+
+returned-number-requires-2 : tie.Need-returned-number-requires-2
+returned-number-requires-2 c κs = (omega arith, omega arith)
+
+returns-2 : tie.Need-returns-2
+returns-2 c = refused-by-report-length _ _ _ (c .before .before .if1 .left) (c .before .if2 .taken) (c .returned-number2 .ensures)
+
+decode-page-requires : tie.Need-decode-page-requires
+decode-page-requires c κs = search needs
+
+returned-number-requires-3 : tie.Need-returned-number-requires-3
+returned-number-requires-3 c κs = small _ _ _ _ (c .before .before .before .decode-page .ensures)
+
+same-length : tie.Need-same-length
+same-length c = search needs
+
+returns-3 : tie.Need-returns-3
+returns-3 c =
+    let page = c .before .before .before .before in
+    let asked = page .before .before in
+    refused _ _ _ (asked .before .if1 .left) (asked .if2 .left) _ _ (page .decode-page .ensures) (c .before .if3 .taken) (c .returned-number3 .ensures)
+
+report-of-requires : tie.Need-report-of-requires
+report-of-requires c κs = search needs
+
+slice-aggregate-copy : tie.Need-slice-aggregate-copy
+slice-aggregate-copy c = search needs
+
+copy-requires : tie.Need-copy-requires
+copy-requires c κs =
+    let made = c .before .before in
+    let asked = made .before .before .before .before .before .before in
+    omega (arith, ap length (made .report-of .ensures), asked .if2 .left)
+
+returned-number-requires-4 : tie.Need-returned-number-requires-4
+returned-number-requires-4 c κs = small _ _ _ _ (c .before .before .before .before .before .before .before .before .before .decode-page .ensures)
+
+same-length-2 : tie.Need-same-length-2
+same-length-2 c = search needs
+
+same-length-3 : tie.Need-same-length-3
+same-length-3 c = search needs
+
+returns-4 : tie.Need-returns-4
+returns-4 c =
+    let copied = c .before .before .before in
+    let made = copied .before .before .before in
+    let page = made .before .before .before .before in
+    let asked = page .before .before in
+    answered _ _ _ (asked .before .if1 .left) (asked .if2 .left) _ _ (page .decode-page .ensures) (made .before .if3 .left) (c .returned-number4 .ensures) _
+    (copied .copy .ensures .1 ∙ all-copied _ _ (ap length (made .report-of .ensures) ∙ sym (asked .if2 .left)) ∙ made .report-of .ensures)
+
+pub station-decode-page-spec : {M : Type 1} → statement M
+station-decode-page-spec =
+    tie.close
+    (tie.spec
+    returned-number-requires
+    returns
+    returned-number-requires-2
+    returns-2
+    decode-page-requires
+    returned-number-requires-3
+    same-length
+    returns-3
+    report-of-requires
+    slice-aggregate-copy
+    copy-requires
+    returned-number-requires-4
+    same-length-2
+    same-length-3
+    returns-4)

@@ -1,0 +1,29 @@
+-- `station::station_encode_page` meets its contract: the call's outcome as one number, and its bytes. Assumes nothing.
+use mathlib.Core.Path.{ap, _∙_, subst⁻¹}
+use Rattle.store.specs.declared.Outcome.{Outcome}
+use Rattle.store.specs.Outcome.{number, place}
+use Rattle.station.specs.Returned.{returned}
+use Rattle.station.proofs.Places.{SmallOutcome, encode-small}
+use borrow.Author.Needs.{needs}
+use Rattle.station.proofs.station_encode_page.Statement.{statement}
+use Rattle.station.proofs.station_encode_page.Tie as tie
+
+encode-page-requires : tie.Need-encode-page-requires
+encode-page-requires c κs = search needs
+
+returned-outcome-requires : tie.Need-returned-outcome-requires
+returned-outcome-requires c κs =
+    let args = c .before .before .before .before .before .before .args in
+    subst⁻¹ SmallOutcome (c .before .before .encode-page .ensures .answer) (encode-small (args .«data» .now) (args .page .now))
+
+same-length : tie.Need-same-length
+same-length c = search needs
+
+returns : tie.Need-returns
+returns c =
+    let filled = c .before .before .before .encode-page .ensures in
+    record { answer = c .returned-outcome .ensures ∙ ap (λ (o : Outcome). returned (number o) (place o)) (filled .answer); bytes = filled .bytes }
+
+pub station-encode-page-spec : {M : Type 1} → statement M
+station-encode-page-spec =
+    tie.close (tie.spec encode-page-requires returned-outcome-requires same-length returns)

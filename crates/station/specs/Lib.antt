@@ -1,0 +1,3 @@
+pub mod Returned
+pub mod Report
+pub mod PageReturned

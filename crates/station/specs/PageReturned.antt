@@ -1,0 +1,37 @@
+-- What the page decoding entry returns and leaves: 01: "Its decoding and the program use the supercode search with limit 500". Assumes nothing.
+use mathlib.Core.Bool.{cond}
+use mathlib.Core.List.{List}
+use mathlib.Core.Path.{_≡_}
+use Prim.Native.Nat.{ℕ}
+use lib.Dec.{eqb}
+use lib.ListN.{length}
+use Rattle.trellis.specs.Demand.{supercode}
+use Rattle.page.specs.Outcomes.{outcomeOf, dataAfter}
+use Rattle.page.specs.declared.pages.PageOutcome.{PageOutcome}
+use Rattle.store.specs.Questions.{ask}
+use Rattle.store.specs.Pages.{refusedPage, askPage, decodedPage}
+use Rattle.station.specs.Returned.{returned}
+use Rattle.station.specs.Report.{reportOf}
+
+abbrev pub limit : ℕ
+limit = 500
+
+-- 1: 1,890 values; 2: 12 bytes of report; then the questions of page decoding, 150 bytes of data among them
+abbrev pub askDecode : {A : Type 0} → List ℕ → List ℕ → List ℕ → (ℕ → ℕ → A) → A → A
+askDecode soft bytes report refusal next =
+    ask (eqb (length soft) 1890) (refusal 1 0)
+    (ask (eqb (length report) 12) (refusal 2 0)
+    (askPage soft limit bytes refusal next))
+
+abbrev pub decodeAnswer : List ℕ → List ℕ → List ℕ → PageOutcome
+decodeAnswer soft bytes report = askDecode soft bytes report refusedPage (outcomeOf (decodedPage supercode soft limit))
+
+-- the report of an answered page; after a refusal the old bytes
+abbrev pub reportAfter : List ℕ → PageOutcome → List ℕ
+reportAfter old o = cond (eqb (o .number) 0) (reportOf o) old
+
+-- the entry returned r and left the data and the report that the page settles
+pub record PageReturned (soft bytes report : List ℕ) (r : ℕ) (newBytes newReport : List ℕ) : Type 0 where
+  pub answer : r ≡ returned (decodeAnswer soft bytes report .number) (decodeAnswer soft bytes report .place)
+  pub bytes-are : newBytes ≡ askDecode soft bytes report (λ n p. bytes) (dataAfter bytes (decodedPage supercode soft limit))
+  pub report-is : newReport ≡ reportAfter report (decodeAnswer soft bytes report)

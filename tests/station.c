@@ -1,0 +1,221 @@
+/* Calls the station's entries as a C program does: every length, NULL with length 0, bad values, late refusals, and the stored pages of a vector folder (default tests/vectors).
+   A refused call may change no byte of any buffer or of the bytes around it. Prints `N checked, M differ`; fails if one differs. */
+#include "../c/station.h"
+#include <stdio.h>
+#include <stdlib.h>
+#include <string.h>
+
+enum { GUARD = 64, ROOM = 4096, LINE = 8192, BLOCK = 512, BLOCKS = 4, COLUMNS_AT = 16, VALUES = 480, CHECK_AT = 510 };
+
+/* A lent buffer between guards, and what it held before the call. */
+typedef struct { uint8_t space[GUARD + ROOM + GUARD], before[GUARD + ROOM + GUARD]; size_t len; } buffer;
+
+static unsigned long checked, differ;
+
+static void check(int right, const char *what, uint64_t result) {
+    checked++;
+    if (right) return;
+    differ++;
+    printf("%s: differs, number %u place %lu\n", what, station_number(result), (unsigned long)station_place(result));
+}
+
+/* A buffer of a length, with given contents as far as there are any and a pattern elsewhere. */
+static void lend(buffer *b, const uint8_t *contents, size_t count, size_t len) {
+    b->len = len;
+    for (size_t i = 0; i < sizeof b->space; i++) b->space[i] = (uint8_t)(0xa5 ^ i);
+    if (count) memcpy(b->space + GUARD, contents, count < len ? count : len);
+    memcpy(b->before, b->space, sizeof b->space);
+}
+
+static uint8_t *bytes(buffer *b) { return b->len ? b->space + GUARD : NULL; }
+
+static int kept(const buffer *b) { return !memcmp(b->space, b->before, sizeof b->space); }
+
+/* The buffer holds what was expected, and nothing around it changed. */
+static int holds(const buffer *b, const uint8_t *expected) {
+    const size_t after = GUARD + b->len;
+    return !memcmp(b->space, b->before, GUARD) && !memcmp(b->space + GUARD, expected, b->len)
+           && !memcmp(b->space + after, b->before + after, sizeof b->space - after);
+}
+
+static int is(uint64_t result, unsigned number, uint64_t place) { return station_number(result) == number && station_place(result) == place; }
+
+static buffer in, out, report;
+
+static void encode(const char *what, const uint8_t *data, size_t data_len, size_t page_len, unsigned number, const uint8_t *page) {
+    lend(&in, data, STATION_DATA_LEN, data_len);
+    lend(&out, NULL, 0, page_len);
+    uint64_t r = station_encode_page(bytes(&in), in.len, bytes(&out), out.len);
+    check(is(r, number, 0) && kept(&in) && (page ? holds(&out, page) : kept(&out)), what, r);
+}
+
+static void read_dump(const char *what, const uint8_t *dump, size_t dump_len, size_t soft_len, unsigned number, uint64_t place, const uint8_t *soft) {
+    lend(&in, dump, STATION_DUMP_LEN, dump_len);
+    lend(&out, NULL, 0, soft_len);
+    uint64_t r = station_read_dump(bytes(&in), in.len, bytes(&out), out.len);
+    check(is(r, number, place) && kept(&in) && (soft ? holds(&out, soft) : kept(&out)), what, r);
+}
+
+static void decode(const char *what, const uint8_t *soft, size_t soft_len, size_t data_len, size_t report_len, unsigned number, uint64_t place, const uint8_t *data, const uint8_t *told) {
+    lend(&in, soft, STATION_SOFT_LEN, soft_len);
+    lend(&out, NULL, 0, data_len);
+    lend(&report, NULL, 0, report_len);
+    uint64_t r = station_decode_page(bytes(&in), in.len, bytes(&out), out.len, bytes(&report), report.len);
+    int left = data ? holds(&out, data) && holds(&report, told) : kept(&out) && kept(&report);
+    check(is(r, number, place) && kept(&in) && left, what, r);
+}
+
+/* A wrong length: 0, one less, one more, far more. */
+enum { WRONG = 4 };
+static size_t wrong(size_t len, int k) {
+    const size_t lengths[WRONG] = {0, len - 1, len + 1, ROOM};
+    return lengths[k];
+}
+
+/* The input's length is asked before the outputs', and both before the values, which are bad here. */
+static void lengths(void) {
+    static uint8_t bad[STATION_DUMP_LEN];
+    memset(bad, 8, sizeof bad);
+    for (int k = 0; k < WRONG; k++) {
+        size_t data = wrong(STATION_DATA_LEN, k), page = wrong(STATION_PAGE_LEN, k), soft = wrong(STATION_SOFT_LEN, k), dump = wrong(STATION_DUMP_LEN, k), told = wrong(STATION_REPORT_LEN, k);
+        encode("encode, data length", bad, data, STATION_PAGE_LEN, STATION_INPUT_LENGTH, NULL);
+        encode("encode, page length", bad, STATION_DATA_LEN, page, STATION_OUTPUT_LENGTH, NULL);
+        encode("encode, both lengths", bad, data, page, STATION_INPUT_LENGTH, NULL);
+        read_dump("read, dump length", bad, dump, STATION_SOFT_LEN, STATION_INPUT_LENGTH, 0, NULL);
+        read_dump("read, soft length", bad, STATION_DUMP_LEN, soft, STATION_OUTPUT_LENGTH, 0, NULL);
+        read_dump("read, both lengths", bad, dump, soft, STATION_INPUT_LENGTH, 0, NULL);
+        decode("decode, soft length", bad, soft, STATION_DATA_LEN, STATION_REPORT_LEN, STATION_INPUT_LENGTH, 0, NULL, NULL);
+        decode("decode, data length", bad, STATION_SOFT_LEN, data, STATION_REPORT_LEN, STATION_OUTPUT_LENGTH, 0, NULL, NULL);
+        decode("decode, report length", bad, STATION_SOFT_LEN, STATION_DATA_LEN, told, STATION_OUTPUT_LENGTH, 0, NULL, NULL);
+        decode("decode, all lengths", bad, soft, data, told, STATION_INPUT_LENGTH, 0, NULL, NULL);
+    }
+}
+
+/* Bad soft values: the first one is the place. */
+static void soft_values(void) {
+    const size_t at[] = {0, 29, 30, 977, STATION_SOFT_LEN - 1};
+    for (size_t i = 0; i < sizeof at / sizeof at[0]; i++) {
+        uint8_t soft[STATION_SOFT_LEN] = {0};
+        soft[STATION_SOFT_LEN - 1] = 255;
+        soft[at[i]] = 8;
+        decode("decode, soft value", soft, sizeof soft, STATION_DATA_LEN, STATION_REPORT_LEN, STATION_VALUE, at[i], NULL, NULL);
+    }
+}
+
+/* The check of a block, high byte first: the sum of (k + 1) * byte k. */
+static void set_check(uint8_t *block) {
+    unsigned sum = 0;
+    for (unsigned k = 0; k < CHECK_AT; k++) sum += (k + 1) * block[k];
+    block[CHECK_AT] = (uint8_t)(sum >> 8);
+    block[CHECK_AT + 1] = (uint8_t)sum;
+}
+
+static void write_dump(const uint8_t soft[STATION_SOFT_LEN], uint8_t dump[STATION_DUMP_LEN]) {
+    memset(dump, 0, STATION_DUMP_LEN);
+    for (size_t i = 0; i < STATION_SOFT_LEN; i++) dump[i / VALUES * BLOCK + COLUMNS_AT + i % VALUES] = soft[i];
+    for (int b = 0; b < BLOCKS; b++) {
+        uint8_t *block = dump + BLOCK * b;
+        block[0] = 0x50;
+        block[1] = 0x47;
+        block[2] = (uint8_t)b;
+        set_check(block);
+    }
+}
+
+/* Dumps with one or two faults, in the order of the questions: 7 and 8 block by block, then 5. */
+static void dumps(void) {
+    uint8_t soft[STATION_SOFT_LEN], dump[STATION_DUMP_LEN];
+    for (int i = 0; i < STATION_SOFT_LEN; i++) soft[i] = (uint8_t)(i * 5 % 8);
+    write_dump(soft, dump);
+    read_dump("read", dump, sizeof dump, STATION_SOFT_LEN, STATION_OK, 0, soft);
+    for (int b = 0; b < BLOCKS; b++) {
+        uint8_t *block = dump + BLOCK * b;
+        write_dump(soft, dump);
+        block[2] ^= 4;
+        set_check(block);
+        read_dump("read, block number", dump, sizeof dump, STATION_SOFT_LEN, STATION_FIXED_BYTES, (uint64_t)b, NULL);
+        write_dump(soft, dump);
+        block[CHECK_AT + 1] ^= 1;
+        dump[STATION_DUMP_LEN - BLOCK] ^= b < BLOCKS - 1;
+        read_dump("read, check, then a later block's fixed byte", dump, sizeof dump, STATION_SOFT_LEN, STATION_CHECK, (uint64_t)b, NULL);
+        write_dump(soft, dump);
+        block[COLUMNS_AT + 7] = 8;
+        read_dump("read, value without its check", dump, sizeof dump, STATION_SOFT_LEN, STATION_CHECK, (uint64_t)b, NULL);
+        set_check(block);
+        read_dump("read, value", dump, sizeof dump, STATION_SOFT_LEN, STATION_VALUE, (uint64_t)(VALUES * b + 7), NULL);
+        dump[STATION_DUMP_LEN - BLOCK + 3] = 1;
+        read_dump("read, value, then a later block's zero byte", dump, sizeof dump, STATION_SOFT_LEN, STATION_FIXED_BYTES, BLOCKS - 1, NULL);
+    }
+    write_dump(soft, dump);
+    dump[STATION_DUMP_LEN - BLOCK + COLUMNS_AT + VALUES - 1] = 1;
+    set_check(dump + STATION_DUMP_LEN - BLOCK);
+    read_dump("read, the missing 64th column", dump, sizeof dump, STATION_SOFT_LEN, STATION_FIXED_BYTES, BLOCKS - 1, NULL);
+}
+
+/* Two hexadecimal digits a byte. */
+static void bytes_of(const char *text, uint8_t *to, size_t n) {
+    for (size_t i = 0; i < n && text[2 * i] && text[2 * i + 1]; i++) {
+        const char digits[3] = {text[2 * i], text[2 * i + 1], 0};
+        to[i] = (uint8_t)strtoul(digits, NULL, 16);
+    }
+}
+
+/* An expect line of the supercode decoder with limit 500: the report's bytes, its helpers, and the data. */
+static void answered(const char *name, const char *line, const uint8_t *soft, const uint8_t *data) {
+    unsigned long steps, total[2 * STATION_LEVELS];
+    uint8_t told[STATION_REPORT_LEN], made[STATION_DATA_LEN] = {0};
+    int at = 0;
+    if (sscanf(line, "%lu %lu %lu %lu %lu %lu %lu %lu %lu %n", &steps, total, total + 1, total + 2, total + 3, total + 4, total + 5, total + 6, total + 7, &at) != 9) {
+        check(0, "an expect line", 0);
+        return;
+    }
+    if (strncmp(line + at, "same", 4)) bytes_of(line + at, made, sizeof made);
+    else memcpy(made, data, sizeof made);
+    for (int i = 0; i < 4; i++) told[i] = (uint8_t)(steps >> (24 - 8 * i));
+    for (int i = 0; i < 2 * STATION_LEVELS; i++) told[4 + i] = (uint8_t)total[i];
+    decode(name, soft, STATION_SOFT_LEN, STATION_DATA_LEN, STATION_REPORT_LEN, STATION_OK, 0, made, told);
+    int same = station_steps(bytes(&report)) == steps;
+    for (unsigned i = 0; i < STATION_LEVELS; i++) same &= station_changed(bytes(&report), i) == total[2 * i] && station_erased(bytes(&report), i) == total[2 * i + 1];
+    check(same, "the header's readers of a report", 0);
+}
+
+/* pages.txt, whose form is in tests/vectors/README.md. Some page must be refused after level 0, when its first rows are already decoded. */
+static void pages(const char *folder) {
+    static char path[LINE], line[LINE], name[LINE];
+    static uint8_t data[STATION_DATA_LEN], page[STATION_PAGE_LEN], soft[STATION_SOFT_LEN];
+    static const char ok[] = "expect super 500 ok ", refused[] = "expect super 500 refused ";
+    unsigned number;
+    unsigned long place, late = 0;
+    snprintf(path, sizeof path, "%s/pages.txt", folder);
+    FILE *file = fopen(path, "r");
+    if (!file) {
+        check(0, path, 0);
+        return;
+    }
+    while (fgets(line, sizeof line, file)) {
+        line[strcspn(line, "\n")] = 0;
+        if (!strncmp(line, "page ", 5)) strcpy(name, line + 5);
+        if (!strncmp(line, "data ", 5)) bytes_of(line + 5, data, sizeof data);
+        if (!strncmp(line, "written ", 8)) {
+            bytes_of(line + 8, page, sizeof page);
+            encode(name, data, sizeof data, sizeof page, STATION_OK, page);
+        }
+        if (!strncmp(line, "soft ", 5)) for (int i = 0; i < STATION_SOFT_LEN && line[5 + i]; i++) soft[i] = (uint8_t)(line[5 + i] - '0');
+        if (!strncmp(line, ok, sizeof ok - 1)) answered(name, line + sizeof ok - 1, soft, data);
+        if (!strncmp(line, refused, sizeof refused - 1) && sscanf(line + sizeof refused - 1, "%u %lu", &number, &place) == 2) {
+            decode(name, soft, sizeof soft, STATION_DATA_LEN, STATION_REPORT_LEN, number, place, NULL, NULL);
+            late += number == STATION_NO_WORD && place > 0;
+        }
+    }
+    fclose(file);
+    check(late > 0, "a page refused after level 0", 0);
+}
+
+int main(int argc, char **argv) {
+    lengths();
+    soft_values();
+    dumps();
+    pages(argc > 1 ? argv[1] : "tests/vectors");
+    printf("%lu checked, %lu differ\n", checked, differ);
+    return differ != 0;
+}
