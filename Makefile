@@ -1,15 +1,17 @@
-# make test: everything that is tested and proved, from nothing. make run: the main job, as far as it exists.
+# make test: everything that is tested and proved, from nothing. make run: proves and builds readpage, then decodes a worn page.
 .PHONY: test run tools listed
 
 test: tools listed
 	@tests/run-vectors tests/vectors tests/libfec tests/known
 	@tests/run-station
+	@tests/run-readpage
 	@rt ci
 
 run: tools
 	@mkdir -p target
-	@rt check powers > target/run.log 2>&1 || { cat target/run.log; exit 1; }
-	@target/bin/powers
+	@{ rt check readpage 2>&1; echo $$? > target/run.status; } | tee target/run.log | grep --line-buffered '^rt: [a-z0-9]* proved'; \
+	[ "$$(cat target/run.status)" = 0 ] || { cat target/run.log; exit 1; }
+	@target/bin/readpage < samples/worn.dump
 
 # what the two commands need on the machine
 tools:

@@ -10,7 +10,7 @@ use lib.Dec.{eqb, leb}
 use lib.ListN.{length}
 use Rattle.dump.specs.Block.{fixedRight, checkRight}
 use Rattle.dump.specs.Dump.{blockAt, softOf}
-use Rattle.dump.specs.Accepted.{Values, Written}
+use Rattle.dump.specs.Accepted.{Values, Accepted, Written}
 use Rattle.dump.proofs.Blocks.{soft-length}
 use Rattle.dump.proofs.Accepts.{reading-accepts-exactly-dumps}
 use Rattle.store.specs.Questions.{ask, firstAbove}
@@ -69,25 +69,29 @@ write-accepts-exactly-soft-pages soft out room = (
   λ page. simp (eq-eqb _ _ (page .size), eq-eqb _ _ room, no-value-above soft page),
 )
 
+-- a dump that reading does not refuse passes every question
+pub read-passes : (dump out : List ℕ) → readAnswer dump out ≡ Done → Accepted dump
+read-passes dump out e =
+    let one = passed (eqb (length dump) 2048) 1 0 _ e in
+    let two = passed (eqb (length out) 1890) 2 0 _ (one .1) in
+    let seven0 = fixed-passed dump 0 _ (two .1) in
+    let eight0 = check-passed dump 0 _ (seven0 .1) in
+    let seven1 = fixed-passed dump 1 _ (eight0 .1) in
+    let eight1 = check-passed dump 1 _ (seven1 .1) in
+    let seven2 = fixed-passed dump 2 _ (eight1 .1) in
+    let eight2 = check-passed dump 2 _ (seven2 .1) in
+    let seven3 = fixed-passed dump 3 _ (eight2 .1) in
+    let eight3 = check-passed dump 3 _ (seven3 .1) in
+    let five = passed (leb 1890 (firstAbove (softOf dump) 7)) 5 (firstAbove (softOf dump) 7) Done (eight3 .1) in
+    record {
+      fixed = four-blocks (λ (b : ℕ). fixedRight (blockAt dump b) b ≡ true) (seven0 .0) (seven1 .0) (seven2 .0) (seven3 .0);
+      check = four-blocks (λ (b : ℕ). checkRight (blockAt dump b) ≡ true) (eight0 .0) (eight1 .0) (eight2 .0) (eight3 .0);
+      values = values-in-range (softOf dump) (soft-length dump) (five .0);
+    }
+
 pub read-accepts-exactly-what-write-makes : (dump out : List ℕ) → Values 2048 255 dump → length out ≡ 1890 → ((readAnswer dump out ≡ Done) ↔ Written dump)
 read-accepts-exactly-what-write-makes dump out bytes room = (
-  λ e.
-      let one = passed (eqb (length dump) 2048) 1 0 _ e in
-      let two = passed (eqb (length out) 1890) 2 0 _ (one .1) in
-      let seven0 = fixed-passed dump 0 _ (two .1) in
-      let eight0 = check-passed dump 0 _ (seven0 .1) in
-      let seven1 = fixed-passed dump 1 _ (eight0 .1) in
-      let eight1 = check-passed dump 1 _ (seven1 .1) in
-      let seven2 = fixed-passed dump 2 _ (eight1 .1) in
-      let eight2 = check-passed dump 2 _ (seven2 .1) in
-      let seven3 = fixed-passed dump 3 _ (eight2 .1) in
-      let eight3 = check-passed dump 3 _ (seven3 .1) in
-      let five = passed (leb 1890 (firstAbove (softOf dump) 7)) 5 (firstAbove (softOf dump) 7) Done (eight3 .1) in
-      reading-accepts-exactly-dumps dump bytes .0 (record {
-        fixed = four-blocks (λ (b : ℕ). fixedRight (blockAt dump b) b ≡ true) (seven0 .0) (seven1 .0) (seven2 .0) (seven3 .0);
-        check = four-blocks (λ (b : ℕ). checkRight (blockAt dump b) ≡ true) (eight0 .0) (eight1 .0) (eight2 .0) (eight3 .0);
-        values = values-in-range (softOf dump) (soft-length dump) (five .0);
-      }),
+  λ e. reading-accepts-exactly-dumps dump bytes .0 (read-passes dump out e),
   λ written.
       let accepted = reading-accepts-exactly-dumps dump bytes .1 written in
       let fixed : (b : ℕ) → b < 4 → (next : Outcome) → askFixed dump b next ≡ next = λ b h. fixed-yes dump b (accepted .fixed b h) in

@@ -1,0 +1,47 @@
+-- The text of page decoding, as the code has its outcome. Assumes nothing.
+use mathlib.Core.Path.{_≡_, refl, ap, _∙_, sym}
+use mathlib.Core.Bool.{true}
+use mathlib.Core.List.{List}
+use Prim.Native.Nat.{ℕ}
+use native.Mathlib.Omega.{arith}
+use borrow.Author.Tests.{eq-eqb}
+use lib.Dec.{leb}
+use lib.ListN.{length}
+use Rattle.trellis.specs.Demand.{Search}
+use Rattle.concatenated.specs.Decode.{Decoded, answered, refused}
+use Rattle.page.specs.Outcomes.{outcomeOf, dataAfter}
+use Rattle.page.specs.declared.pages.PageOutcome.{PageOutcome}
+use Rattle.store.specs.Questions.{firstAbove}
+use Rattle.store.specs.Pages.{refusedPage, decodedPage, askPage, PageDecoded}
+use Rattle.readpage.specs.Report.{refusedLine, pageText, decodedText}
+
+refused-text : (d : Decoded) → (outcomeOf d .number ≡ 0 → ⊥) → refusedLine (outcomeOf d .number) (outcomeOf d .place) ≡ decodedText d
+unfolding outcomeOf decodedText
+refused-text (answered ls n) some = absurd (some refl)
+refused-text (refused l) some = refl
+
+answered-text : (old : List ℕ) (d : Decoded) → outcomeOf d .number ≡ 0
+    → pageText (outcomeOf d .steps) (outcomeOf d .changed) (outcomeOf d .erased) (dataAfter old d) ≡ decodedText d
+unfolding outcomeOf dataAfter decodedText
+answered-text old (answered ls n) none = refl
+answered-text old (refused l) none = absurd (omega (arith, none))
+
+-- a call with nothing to refuse before page decoding
+module _ (s : Search) (soft old new : List ℕ) (r : PageOutcome) (decoded : PageDecoded s soft 500 old r new)
+    (long : length soft ≡ 1890) (room : length old ≡ 150) (five : leb 1890 (firstAbove soft 7) ≡ true) where
+  outcome : r ≡ outcomeOf (decodedPage s soft 500)
+  outcome = decoded .answer ∙ simp (eq-eqb _ _ long, eq-eqb _ _ room, five)
+
+  bytes : new ≡ dataAfter old (decodedPage s soft 500)
+  bytes = decoded .bytes ∙ simp (eq-eqb _ _ long, eq-eqb _ _ room, five)
+
+  pub text-of-refused : (r .number ≡ 0 → ⊥) → refusedLine (r .number) (r .place) ≡ decodedText (decodedPage s soft 500)
+  text-of-refused some =
+      ap (λ (o : PageOutcome). refusedLine (o .number) (o .place)) outcome
+      ∙ refused-text (decodedPage s soft 500) (λ none. some (ap (λ (o : PageOutcome). o .number) outcome ∙ none))
+
+  pub text-of-answered : r .number ≡ 0 → pageText (r .steps) (r .changed) (r .erased) new ≡ decodedText (decodedPage s soft 500)
+  text-of-answered none =
+      ap (λ (o : PageOutcome). pageText (o .steps) (o .changed) (o .erased) new) outcome
+      ∙ ap (λ (l : List ℕ). pageText (outcomeOf (decodedPage s soft 500) .steps) (outcomeOf (decodedPage s soft 500) .changed) (outcomeOf (decodedPage s soft 500) .erased) l) bytes
+      ∙ answered-text old (decodedPage s soft 500) (ap (λ (o : PageOutcome). o .number) (sym outcome) ∙ none)

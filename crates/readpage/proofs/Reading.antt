@@ -1,0 +1,51 @@
+-- What reading the dump leaves, and the output by it. Assumes nothing.
+use mathlib.Core.Path.{_≡_, ap, _∙_, sym}
+use mathlib.Core.Bool.{true}
+use mathlib.Core.List.{List}
+use Prim.Native.Nat.{ℕ, _+_, _≤_}
+use native.Mathlib.Omega.{arith}
+use lib.Dec.{leb}
+use lib.ListN.{length, take, replicate}
+use lib.Seq.{length-take-le}
+use Rattle.io.specs.Counts.{Counts}
+use Rattle.trellis.specs.Demand.{supercode}
+use Rattle.dump.specs.Dump.{softOf}
+use Rattle.store.specs.Outcome.{after, Filled}
+use Rattle.store.specs.Dumps.{readAnswer}
+use Rattle.store.specs.Pages.{decodedPage}
+use Rattle.store.specs.Questions.{firstAbove}
+use Rattle.store.specs.declared.Outcome.{Outcome}
+use Rattle.store.specs.declared.Outcome.the-variants.{Done, Refused}
+use Rattle.store.proofs.DumpAnswers.{read-passes, no-value-above}
+use Rattle.readpage.specs.Text.{Appended}
+use Rattle.readpage.specs.Report.{refusedLine, decodedText, readText, outputOf}
+
+-- where nothing is refused, the values are those of the dump
+pub soft-read : {due r : Outcome} {made old new : List ℕ} → Filled due made old r new → r ≡ Done → new ≡ made
+soft-read {made = made} {old = old} filled done = filled .bytes ∙ ap (λ (o : Outcome). after o made old) (sym (filled .answer) ∙ done)
+
+-- and each is 0..7
+pub soft-in-range : (dump old new : List ℕ) (r : Outcome) → Filled (readAnswer dump old) (softOf dump) old r new → r ≡ Done
+    → leb 1890 (firstAbove new 7) ≡ true
+soft-in-range dump old new r filled done =
+    ap (λ (l : List ℕ). leb 1890 (firstAbove l 7)) (soft-read filled done)
+    ∙ no-value-above (softOf dump) (read-passes dump old (sym (filled .answer) ∙ done) .values)
+
+-- text at the front of a buffer with room for it
+pub counted : {r most : ℕ} {text old new : List ℕ} → Appended 0 text most old r new → most ≤ length old → Counts r new
+counted {r} {new = new} p room =
+    let inside : r ≤ length new = omega (arith, p .reach, p .size, room) in
+    (inside, sym (length-take-le r new inside))
+
+pub output-read : (dump new : List ℕ) (r : Outcome) → Filled (readAnswer dump (replicate 1890 0)) (softOf dump) (replicate 1890 0) r new → r ≡ Done
+    → decodedText (decodedPage supercode new 500) ≡ outputOf dump
+unfolding outputOf
+output-read dump new r filled done =
+    ap (λ (l : List ℕ). decodedText (decodedPage supercode l 500)) (soft-read filled done)
+    ∙ ap (λ (o : Outcome). readText o (decodedText (decodedPage supercode (softOf dump) 500))) (sym done ∙ filled .answer)
+
+pub output-refused : (dump new : List ℕ) (r : Outcome) (n p : ℕ) → Filled (readAnswer dump (replicate 1890 0)) (softOf dump) (replicate 1890 0) r new → r ≡ Refused n p
+    → refusedLine n p ≡ outputOf dump
+unfolding outputOf
+output-refused dump new r n p filled refused =
+    ap (λ (o : Outcome). readText o (decodedText (decodedPage supercode (softOf dump) 500))) (sym refused ∙ filled .answer)

@@ -1,0 +1,45 @@
+-- `readpage::append_data` meets its contract: its pieces one behind the other. Assumes nothing.
+use borrow.Author.Needs.{needs}
+use Rattle.readpage.specs.Text.{ascii}
+use Rattle.readpage.specs.Report.{dataLine}
+use Rattle.readpage.proofs.Appended.{then}
+use Rattle.readpage.proofs.append_data.Statement.{statement}
+use Rattle.readpage.proofs.append_data.Tie as tie
+
+slice-aggregate-append : tie.Need-slice-aggregate-append
+slice-aggregate-append c = search needs
+
+append-requires : tie.Need-append-requires
+append-requires c κs = search needs
+
+append-hex-requires : tie.Need-append-hex-requires
+append-hex-requires c κs = search needs
+
+slice-aggregate-append-2 : tie.Need-slice-aggregate-append-2
+slice-aggregate-append-2 c = search needs
+
+append-requires-2 : tie.Need-append-requires-2
+append-requires-2 c κs = search needs
+
+same-length : tie.Need-same-length
+same-length c = search needs
+
+returns : tie.Need-returns
+unfolding ascii dataLine
+returns c =
+    let end = c .before .before in
+    let digits = end .before .before .before .before .before in
+    let words = digits .before .before .before .before in
+    then (then (words .append .ensures) (digits .append-hex .ensures)) (end .append2 .ensures)
+
+pub append-data-spec : {M : Type 1} → statement M
+append-data-spec =
+    tie.close
+    (tie.spec
+    slice-aggregate-append
+    append-requires
+    append-hex-requires
+    slice-aggregate-append-2
+    append-requires-2
+    same-length
+    returns)

@@ -1,0 +1,75 @@
+-- `readpage::append_level` meets its contract: its pieces one behind the other. Assumes nothing.
+use borrow.Author.Needs.{needs}
+use Rattle.readpage.specs.Text.{ascii}
+use Rattle.readpage.specs.Report.{levelLine}
+use Rattle.readpage.proofs.Appended.{then}
+use Rattle.readpage.proofs.append_level.Statement.{statement}
+use Rattle.readpage.proofs.append_level.Tie as tie
+
+slice-aggregate-append : tie.Need-slice-aggregate-append
+slice-aggregate-append c = search needs
+
+append-requires : tie.Need-append-requires
+append-requires c κs = search needs
+
+append-decimal-requires : tie.Need-append-decimal-requires
+append-decimal-requires c κs = search needs
+
+slice-aggregate-append-2 : tie.Need-slice-aggregate-append-2
+slice-aggregate-append-2 c = search needs
+
+append-requires-2 : tie.Need-append-requires-2
+append-requires-2 c κs = search needs
+
+append-decimal-requires-2 : tie.Need-append-decimal-requires-2
+append-decimal-requires-2 c κs = search needs
+
+slice-aggregate-append-3 : tie.Need-slice-aggregate-append-3
+slice-aggregate-append-3 c = search needs
+
+append-requires-3 : tie.Need-append-requires-3
+append-requires-3 c κs = search needs
+
+append-decimal-requires-3 : tie.Need-append-decimal-requires-3
+append-decimal-requires-3 c κs = search needs
+
+slice-aggregate-append-4 : tie.Need-slice-aggregate-append-4
+slice-aggregate-append-4 c = search needs
+
+append-requires-4 : tie.Need-append-requires-4
+append-requires-4 c κs = search needs
+
+same-length : tie.Need-same-length
+same-length c = search needs
+
+returns : tie.Need-returns
+unfolding ascii levelLine
+returns c =
+    let end = c .before .before in
+    let erased = end .before .before .before .before .before in
+    let between = erased .before .before .before .before in
+    let changed = between .before .before .before .before .before in
+    let before = changed .before .before .before .before in
+    let level = before .before .before .before .before .before in
+    let words = level .before .before .before .before in
+    let numbered = then (words .append .ensures) (level .append-decimal .ensures) in
+    let first = then (then numbered (before .append2 .ensures)) (changed .append-decimal2 .ensures) in
+    then (then (then first (between .append3 .ensures)) (erased .append-decimal3 .ensures)) (end .append4 .ensures)
+
+pub append-level-spec : {M : Type 1} → statement M
+append-level-spec =
+    tie.close
+    (tie.spec
+    slice-aggregate-append
+    append-requires
+    append-decimal-requires
+    slice-aggregate-append-2
+    append-requires-2
+    append-decimal-requires-2
+    slice-aggregate-append-3
+    append-requires-3
+    append-decimal-requires-3
+    slice-aggregate-append-4
+    append-requires-4
+    same-length
+    returns)
