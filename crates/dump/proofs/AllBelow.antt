@@ -1,8 +1,8 @@
 -- A test that passes at every place, or fails at one. Assumes nothing.
-use mathlib.Core.Path.{_≡_, refl, ap, _∙_, sym}
+use mathlib.Core.Path.{_≡_, refl, ap, ap₂, _∙_, sym}
 use mathlib.Core.Bool.{Bool, true, false, cond}
 use Prim.Native.Nat.{ℕ, zero, suc, _+_, _<_}
-use native.Mathlib.Nat.{not-suc-le-zero}
+use native.Mathlib.Nat.{not-suc-le-zero, add-zero, add-suc}
 use native.Mathlib.Numerals.{add-one}
 use native.Mathlib.Omega.{arith}
 use Rattle.dump.specs.Listed.{allBelow}
@@ -30,9 +30,28 @@ module _ (test : ℕ → Bool) where
       never true = refl
       never false = refl
 
+  -- the first a places, and the n behind them
+  pub all-split : (a n : ℕ) → allBelow test (a + n) ≡ cond (allBelow test a) (allBelow (λ (k : ℕ). test (a + k)) n) false
+  unfolding allBelow
+  all-split a zero = rw add-zero (sym (alone (allBelow test a)))
+    where
+      alone : (t : Bool) → cond t true false ≡ t
+      alone true = refl
+      alone false = refl
+  all-split a (suc n) = rw add-suc (ap (λ (t : Bool). cond t (test (a + n)) false) (all-split a n) ∙ nested (allBelow test a))
+    where
+      nested : (t : Bool) → cond (cond t (allBelow (λ (k : ℕ). test (a + k)) n) false) (test (a + n)) false ≡ cond t (cond (allBelow (λ (k : ℕ). test (a + k)) n) (test (a + n)) false) false
+      nested true = refl
+      nested false = refl
+
   pub all-at : (n k : ℕ) → k < n → allBelow test n ≡ true → test k ≡ true
   all-at n k h passes = by-test (test k) refl
     where
       by-test : (t : Bool) → test k ≡ t → test k ≡ true
       by-test true e = e
       by-test false e = let z : _≡_ {A = ℕ} 0 1 = cc (all-not n k h e) in absurd (omega arith)
+
+pub all-ext : (test other : ℕ → Bool) (n : ℕ) → ((k : ℕ) → k < n → test k ≡ other k) → allBelow test n ≡ allBelow other n
+unfolding allBelow
+all-ext test other zero each = refl
+all-ext test other (suc n) each = ap₂ (λ (s t : Bool). cond s t false) (all-ext test other n (λ k h. each k (omega arith))) (each n (omega arith))

@@ -1,15 +1,15 @@
 -- The blocks of a dump, and the bytes of a block. Assumes nothing.
 use mathlib.Core.Path.{_≡_, refl, ap, _∙_, sym, subst}
 use mathlib.Core.List.{List}
-use Prim.Native.Nat.{ℕ, _+_, _*_, _/_, _%_, _<_}
+use Prim.Native.Nat.{ℕ, _+_, _*_, _/_, _%_, _<_, _≤_}
 use native.Mathlib.Omega.{arith}
-use lib.ListN.{length, length-append, getD, drop, length-drop, List·getD-append}
+use lib.ListN.{length, length-append, getD, take, drop, length-drop, List·getD-append}
 use lib.Seq.{getD-take, getD-drop, take-at, length-take-le}
 use Rattle.dump.specs.Check.{checkOf}
 use Rattle.dump.specs.Block.{bodyByte, bodyOf, blockOf}
 use Rattle.dump.specs.Dump.{dumpOf, blockAt, softValue, softOf}
 use Rattle.dump.proofs.Check.{weighted-take}
-use Rattle.dump.proofs.Listed.{length-listed, getD-listed}
+use Rattle.dump.proofs.Listed.{length-listed, getD-listed, take-is-listed}
 use Rattle.dump.proofs.Joined.{length-joined, part-of-joined}
 use Rattle.dump.proofs.LastTwo.{last-two-first, last-two-second}
 
@@ -40,6 +40,23 @@ byte-of-block dump b k h = getD-take 512 (drop (b * 512) dump) k 0 h ∙ getD-dr
 pub value-of-soft : (dump : List ℕ) (i : ℕ) → i < 1890 → getD (softOf dump) i 0 ≡ getD (blockAt dump (i / 480)) (16 + i % 480) 0
 unfolding softOf softValue
 value-of-soft dump i h = getD-listed (softValue dump) 1890 i h ∙ sym (byte-of-block dump (i / 480) (16 + i % 480) (omega arith))
+
+-- n values of block b, from its first on, lie in one piece
+pub values-of-block : (dump : List ℕ) (b n : ℕ) → length dump ≡ 2048 → n ≤ 480 → b * 480 + n ≤ 1890
+    → take n (drop (b * 512 + 16) dump) ≡ take n (drop (b * 480) (softOf dump))
+unfolding softOf softValue
+values-of-block dump b n size few room =
+    take-is-listed value (drop (b * 512 + 16) dump) n (simp length-drop (omega arith)) (λ k h. getD-drop (b * 512 + 16) dump k 0 ∙ ap (λ (i : ℕ). getD dump i 0) (place k h))
+    ∙ sym (take-is-listed value (drop (b * 480) (softOf dump)) n (simp (length-drop, soft-length) (omega arith)) (λ k h. getD-drop (b * 480) (softOf dump) k 0 ∙ soft-entry (b * 480 + k) (omega arith)))
+  where
+    value : ℕ → ℕ
+    value k = softValue dump (b * 480 + k)
+
+    place : (k : ℕ) → k < n → b * 512 + 16 + k ≡ (b * 480 + k) / 480 * 512 + (16 + (b * 480 + k) % 480)
+    place k h = omega arith
+
+    soft-entry : (i : ℕ) → i < 1890 → getD (softOf dump) i 0 ≡ softValue dump i
+    soft-entry i h = getD-listed (softValue dump) 1890 i h
 
 -- the bytes of a written block
 module _ (soft : List ℕ) (b : ℕ) where

@@ -1,13 +1,11 @@
--- Laws of `joined`: parts of m values one after the other, as a loop writes them and as a reader takes them. Assumes nothing.
+-- Laws of `joined`: parts of m values one after the other, as a writer makes them and as a reader takes them. Assumes nothing.
 use mathlib.Core.Path.{_≡_, refl, ap, ap₂, _∙_, sym}
-use mathlib.Core.List.{List, _++_, append-assoc}
-use Prim.Native.Nat.{ℕ, zero, suc, _+_, _*_, _-_, _<_, _≤_}
+use mathlib.Core.List.{List, _++_}
+use Prim.Native.Nat.{ℕ, zero, suc, _+_, _*_, _<_, _≤_}
 use native.Mathlib.Nat.{not-suc-le-zero, suc-mul, mul-le-mul-right}
-use native.Mathlib.Numerals.{add-one}
 use native.Mathlib.Omega.{arith}
 use lib.ListN.{length, take, drop, length-append, length-drop}
-use lib.Seq.{take-add, take-all, take-at, drop-at, drop-append-le, take-append-le, length-take-le}
-use borrow.Rule.Slice.PartMut.{putMid, same-len-mid, mid-len}
+use lib.Seq.{take-add, take-all, drop-at, drop-append-le, take-append-le}
 use Rattle.dump.specs.Listed.{joined}
 use Rattle.dump.proofs.Listed.{below-or-last}
 
@@ -50,20 +48,3 @@ module _ (f : ℕ → List ℕ) (m : ℕ) (long : (b : ℕ) → length (f b) ≡
           ap (take m) (drop-at (joined f n) (f n) (b * m) (length-joined n ∙ ap (λ (k : ℕ). k * m) (sym e)))
           ∙ take-all m (f n) (omega (arith, long n))
           ∙ ap f (sym e)
-
-  -- part b is written over a buffer whose first b parts are those of f
-  pub written-more : (s y : List ℕ) (b : ℕ) → b * m + m ≤ length s → y ≡ f b → take (b * m) s ≡ joined f b
-      → take ((b + 1) * m) (putMid (b * m) (b * m + m - b * m) s y) ≡ joined f (b + 1)
-  unfolding joined
-  written-more s y b room e before =
-      let front : length (take (b * m) s ++ y) ≡ (b + 1) * m =
-      simp (length-append, add-one, suc-mul) (omega (arith, length-take-le (b * m) s (omega arith), long b, ap length e)) in
-      ap (take ((b + 1) * m)) (sym (append-assoc (take (b * m) s) y _))
-      ∙ take-at (take (b * m) s ++ y) _ ((b + 1) * m) front
-      ∙ rw (before, e, add-one)
-
-  -- and the buffer is as long as it was
-  pub written-length : (s y : List ℕ) (b : ℕ) → b * m + m ≤ length s → y ≡ f b → length (putMid (b * m) (b * m + m - b * m) s y) ≡ length s
-  written-length s y b room e =
-      let size : b * m + m - b * m ≡ m = omega arith in
-      same-len-mid (b * m) (b * m + m - b * m) s y (ap length e ∙ long b ∙ sym size ∙ sym (mid-len (b * m) (b * m + m) s room))

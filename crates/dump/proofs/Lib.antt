@@ -1,9 +1,11 @@
 pub mod Listed
 pub mod AllBelow
 pub mod Joined
+pub mod Put
 pub mod LastTwo
 pub mod Check
 pub mod Places
+pub mod FixedParts
 pub mod Blocks
 pub mod Undone
 pub mod Accepts

@@ -1,5 +1,6 @@
 pub mod Listed
 pub mod Check
 pub mod Block
+pub mod Parts
 pub mod Dump
 pub mod Accepted

@@ -1,10 +1,12 @@
-// The dump of a soft page: 01, "The dump". A byte of a block is a soft value, a fixed or zero byte, or one of the two of the check; writing and testing a block
-// go by the same two functions, `holds_value` and `fixed_byte`. Lengths and block numbers are asked of the caller; the crate `store` has the calls that test them.
+// The dump of a soft page: 01, "The dump". A byte of a block is a soft value, a fixed or zero byte, or one of the two of the check. Writing goes byte by byte, by
+// `holds_value` and `fixed_byte`; reading takes a block's values in one piece, by `values_of`. Lengths and block numbers are asked of the caller; the crate `store`
+// has the calls that test them.
 ghost use mathlib.Core.Path.{_≡_};
-ghost use Prim.Native.Nat.{_<_, _≤_};
+ghost use Prim.Native.Nat.{_+_, _<_, _≤_};
 ghost use lib.ListN.{length};
 ghost use Rattle.dump.specs.Check.{checkOf};
-ghost use Rattle.dump.specs.Block.{holdsValue, fixedByte, bodyByte, blockOf, byteRight, fixedRight, checkRight};
+ghost use Rattle.dump.specs.Block.{holdsValue, fixedByte, bodyByte, blockOf, fixedRight, checkRight};
+ghost use Rattle.dump.specs.Parts.{valuesOf, fixedFrom};
 ghost use Rattle.dump.specs.Dump.{dumpOf, blockAt, softOf};
 
 fn wide(x: u8) -> u32
@@ -19,11 +21,12 @@ pub fn check_of(block: &[u8]) -> u16
     ensures { λ r. ⌜ r ≡ checkOf (now (block .entry)) ⌝ }
 {
     let mut sum: u16 = 0;
-    let mut k: u32 = 0;
+    let mut weight: u16 = 1;
+    let mut k = 0;
     while k < 510 {
-        let i = k as usize;
-        let term = (k + 1) * wide(block[i]);
+        let term = weight as u32 * wide(block[k]);
         sum = std::num::wrapping_add_u16(sum, (term % 65536) as u16);
+        weight += 1;
         k += 1;
     }
     sum
@@ -111,30 +114,40 @@ pub fn block_at(dump: &[u8], b: usize) -> &[u8]
     &dump[start..end]
 }
 
-// Whether x may stand at byte k, below 510, of block b.
-fn byte_right(x: u8, b: usize, k: usize) -> bool
+// How many soft values block b holds: 16 columns of 30, in the last block 15.
+fn values_of(b: usize) -> usize
     requires { ⌜ b < 4 ⌝ }
-    ensures { λ r. ⌜ r ≡ byteRight x b k ⌝ }
+    ensures { λ r. ⌜ r ≡ valuesOf b ⌝ }
 {
-    if holds_value(b, k) {
-        return true;
-    }
-    x == fixed_byte(b, k)
+    480 - b / 3 * 30
 }
 
-// Question 7: whether the fixed and zero bytes of block b are right.
-pub fn fixed_right(block: &[u8], b: usize) -> bool
-    requires { ⌜ (length (now block) ≡ 512) × (b < 4) ⌝ }
-    ensures { λ r. ⌜ r ≡ fixedRight (now (block .entry)) b ⌝ }
+// Whether the n bytes of block b from byte `start` on, none of them a soft value, are right.
+fn fixed_from(block: &[u8], b: usize, start: usize, n: usize) -> bool
+    requires { ⌜ (length (now block) ≡ 512) × (b < 4) × (start + n ≤ 510) ⌝ }
+    ensures { λ r. ⌜ r ≡ fixedFrom (now (block .entry)) b start n ⌝ }
 {
     let mut k = 0;
-    while k < 510 {
-        if !byte_right(block[k], b, k) {
+    while k < n {
+        let at = start + k;
+        if block[at] != fixed_byte(b, at) {
             return false;
         }
         k += 1;
     }
     true
+}
+
+// Question 7: whether the fixed and zero bytes of block b are right, those before its values and those behind them.
+pub fn fixed_right(block: &[u8], b: usize) -> bool
+    requires { ⌜ (length (now block) ≡ 512) × (b < 4) ⌝ }
+    ensures { λ r. ⌜ r ≡ fixedRight (now (block .entry)) b ⌝ }
+{
+    if !fixed_from(block, b, 0, 16) {
+        return false;
+    }
+    let values = values_of(b);
+    fixed_from(block, b, 16 + values, 494 - values)
 }
 
 // Question 8: whether the check of a block is right.
@@ -147,15 +160,31 @@ pub fn check_right(block: &[u8]) -> bool
     high * 256 + low == check_of(block) as u32
 }
 
-// Reads the soft values of a dump.
+// Copies `values` into `out`, which is as long.
+fn copy(values: &[u8], out: &mut [u8])
+    requires { ⌜ length (now values) ≡ length (now out) ⌝ }
+    ensures { λ _. ⌜ now (out .exit) ≡ now (values .entry) ⌝ }
+{
+    let mut i = 0;
+    while i < out.len() {
+        out[i] = values[i];
+        i += 1;
+    }
+}
+
+// Reads the soft values of a dump, block by block.
 pub fn read(dump: &[u8], out: &mut [u8])
     requires { ⌜ (length (now dump) ≡ 2048) × (length (now out) ≡ 1890) ⌝ }
     ensures { λ _. ⌜ now (out .exit) ≡ softOf (now (dump .entry)) ⌝ }
 {
-    let mut i = 0;
-    while i < 1890 {
-        let at = i / 480 * 512 + (16 + i % 480);
-        out[i] = dump[at];
-        i += 1;
+    let mut b = 0;
+    while b < 4 {
+        let n = values_of(b);
+        let start = b * 512 + 16;
+        let end = start + n;
+        let at = b * 480;
+        let to = at + n;
+        copy(&dump[start..end], &mut out[at..to]);
+        b += 1;
     }
 }

@@ -1,29 +1,27 @@
 -- `dump::check_of` meets its contract. The loop's invariant: the running sum is the weighted sum of the bytes passed, modulo 65,536. Assumes nothing.
-use mathlib.Core.Path.{_≡_, _∙_, ap}
+use mathlib.Core.Path.{_≡_, _∙_, ap, ap₂}
 use Prim.Native.Nat.{ℕ, _≤_, _+_, _*_, _-_, _%_}
 use native.Mathlib.Nat.{mul-le-mul}
 use native.Mathlib.Omega.{arith}
 use borrow.Author.Needs.{needs}
+use lib.ListN.{getD}
 use Rattle.dump.specs.Check.{weighted}
 use Rattle.dump.proofs.Check.{weighted-more}
 use Rattle.dump.proofs.check_of.Statement.{statement}
 use Rattle.dump.proofs.check_of.Tie as tie
 
 abbrev Inv-loop : tie.InvT-loop
-Inv-loop block sum₀ k₀ sum k = (k ≤ 510) × (sum ≡ weighted block k % 65536)
+Inv-loop block sum₀ weight₀ k₀ sum weight k = (k ≤ 510) × (weight ≡ k + 1) × (sum ≡ weighted block k % 65536)
 
 abbrev μ-loop : tie.MeasureT-loop
-μ-loop block sum₀ k₀ sum k = 510 - k
+μ-loop block sum₀ weight₀ k₀ sum weight k = 510 - k
 
 loop-holds : tie.Need-loop-holds Inv-loop μ-loop
 unfolding weighted
 loop-holds c = search needs
 
-cast-i : tie.Need-cast-i Inv-loop μ-loop
-cast-i c = search needs
-
-add-term : tie.Need-add-term Inv-loop μ-loop
-add-term c = search needs
+cast-term : tie.Need-cast-term Inv-loop μ-loop
+cast-term c = search needs
 
 shared-slice-read-wide : tie.Need-shared-slice-read-wide Inv-loop μ-loop
 shared-slice-read-wide c = search needs
@@ -33,9 +31,9 @@ wide-requires c κs = search needs
 
 mul-term : tie.Need-mul-term Inv-loop μ-loop
 mul-term c =
-    let k = c .before .before .before .loop .k in
-    let byte : c .wide .result ≤ 255 = omega (arith, c .before .shared-slice-known2 .given k, c .wide .ensures) in
-    let weight : k + 1 ≤ 510 = omega arith in
+    let at-loop = c .before .before .before in
+    let byte : c .wide .result ≤ 255 = omega (arith, c .before .shared-slice-known2 .given (at-loop .loop .k), c .wide .ensures) in
+    let weight : at-loop .loop .weight ≤ 510 = omega arith in
     omega (arith, mul-le-mul weight byte)
 
 cast-wrapping-add-u16 : tie.Need-cast-wrapping-add-u16 Inv-loop μ-loop
@@ -43,6 +41,9 @@ cast-wrapping-add-u16 c = search needs
 
 wrapping-add-u16-requires : tie.Need-wrapping-add-u16-requires Inv-loop μ-loop
 wrapping-add-u16-requires c κs = search needs
+
+add-weight : tie.Need-add-weight Inv-loop μ-loop
+add-weight c = search needs
 
 add-k : tie.Need-add-k Inv-loop μ-loop
 add-k c = search needs
@@ -55,13 +56,14 @@ loop-again c =
     let at-loop = c .before .before .before .before in
     let block = at-loop .before .before .args .block .now in
     let k = at-loop .loop .k in
-    let term = ap (λ (x : ℕ). (k + 1) * x) (c .before .wide .ensures) in
-    (search needs, omega (arith, weighted-more block k, term, c .wrapping-add-u16 .ensures, at-loop .loop .inv .1))
+    let inv = at-loop .loop .inv in
+    let term : at-loop .loop .weight * c .before .wide .result ≡ (k + 1) * getD block k 0 = ap₂ (λ (x y : ℕ). x * y) (inv .1) (c .before .wide .ensures) in
+    (search needs, omega arith, omega (arith, weighted-more block k, term, c .wrapping-add-u16 .ensures, inv .2))
 
 returns : tie.Need-returns Inv-loop μ-loop
 returns c =
     let at-loop = c .before in
-    at-loop .loop .inv .1 ∙ ap (λ (n : ℕ). weighted (at-loop .before .before .args .block .now) n % 65536) (omega arith)
+    at-loop .loop .inv .2 ∙ ap (λ (n : ℕ). weighted (at-loop .before .before .args .block .now) n % 65536) (omega arith)
 
 pub check-of-spec : {M : Type 1} → statement M
 check-of-spec =
@@ -70,13 +72,13 @@ check-of-spec =
     Inv-loop
     μ-loop
     loop-holds
-    cast-i
-    add-term
+    cast-term
     shared-slice-read-wide
     wide-requires
     mul-term
     cast-wrapping-add-u16
     wrapping-add-u16-requires
+    add-weight
     add-k
     loop-less
     loop-again

@@ -1,65 +1,112 @@
--- `dump::read` meets its contract. The loop's invariant: the values passed stand in front. Assumes nothing.
-use mathlib.Core.Path.{_≡_, refl, _∙_, ap, sym}
-use Prim.Native.Nat.{_≤_, _-_}
+-- `dump::read` meets its contract. The loop's invariant: the values of the blocks passed stand in front. Assumes nothing.
+use mathlib.Core.Path.{_≡_, _∙_, ap, sym}
+use Prim.Native.Nat.{ℕ, _≤_, _+_, _*_, _-_, _/_}
 use native.Mathlib.Omega.{arith}
 use borrow.Author.Needs.{needs}
-use lib.ListN.{length, take, length-set}
+use lib.ListN.{length, take, drop}
 use lib.Seq.{take-all}
-use Rattle.dump.specs.Listed.{listed}
-use Rattle.dump.specs.Dump.{softValue, softOf}
-use Rattle.dump.proofs.Listed.{filled-more}
+use Rattle.dump.specs.Dump.{softOf}
+use Rattle.dump.specs.Parts.{valuesOf}
+use Rattle.dump.proofs.Blocks.{soft-length, values-of-block}
+use Rattle.dump.proofs.Put.{put-more, put-length}
 use Rattle.dump.proofs.read.Statement.{statement}
 use Rattle.dump.proofs.read.Tie as tie
 
+-- how many values the blocks before b hold
+abbrev values-before : ℕ → ℕ
+values-before b = b * 480 - b / 4 * 30
+
 abbrev Inv-loop : tie.InvT-loop
-Inv-loop dump out₀ i₀ out i = (i ≤ 1890) × (length out ≡ 1890) × (take i out ≡ listed (softValue dump) i)
+Inv-loop dump out₀ b₀ out b = (b ≤ 4) × (length out ≡ 1890) × (take (values-before b) out ≡ take (values-before b) (softOf dump))
 
 abbrev μ-loop : tie.MeasureT-loop
-μ-loop dump out₀ i₀ out i = 1890 - i
+μ-loop dump out₀ b₀ out b = 4 - b
 
 loop-holds : tie.Need-loop-holds Inv-loop μ-loop
-unfolding listed
 loop-holds c = search needs
+
+values-of-requires : tie.Need-values-of-requires Inv-loop μ-loop
+values-of-requires c κs = search needs
+
+mul-start : tie.Need-mul-start Inv-loop μ-loop
+mul-start c = search needs
+
+add-start : tie.Need-add-start Inv-loop μ-loop
+add-start c = search needs
+
+add-end : tie.Need-add-end Inv-loop μ-loop
+add-end c = search needs
 
 mul-at : tie.Need-mul-at Inv-loop μ-loop
 mul-at c = search needs
 
-add-at : tie.Need-add-at Inv-loop μ-loop
-add-at c = search needs
+add-to : tie.Need-add-to Inv-loop μ-loop
+add-to c = search needs
 
-add-at-2 : tie.Need-add-at-2 Inv-loop μ-loop
-add-at-2 c = search needs
+sub-copy : tie.Need-sub-copy Inv-loop μ-loop
+sub-copy c = search needs
 
-shared-slice-read-out : tie.Need-shared-slice-read-out Inv-loop μ-loop
-shared-slice-read-out c = search needs
+part-copy-start : tie.Need-part-copy-start Inv-loop μ-loop
+part-copy-start c = search needs
 
-slice-write-out : tie.Need-slice-write-out Inv-loop μ-loop
-slice-write-out c = search needs
+part-copy-end : tie.Need-part-copy-end Inv-loop μ-loop
+part-copy-end c = search needs
 
-add-i : tie.Need-add-i Inv-loop μ-loop
-add-i c = search needs
+sub-copy-2 : tie.Need-sub-copy-2 Inv-loop μ-loop
+sub-copy-2 c = search needs
+
+part-copy-start-2 : tie.Need-part-copy-start-2 Inv-loop μ-loop
+part-copy-start-2 c = search needs
+
+part-copy-end-2 : tie.Need-part-copy-end-2 Inv-loop μ-loop
+part-copy-end-2 c = search needs
+
+copy-requires : tie.Need-copy-requires Inv-loop μ-loop
+copy-requires c κs = search needs
+
+add-b : tie.Need-add-b Inv-loop μ-loop
+add-b c = search needs
 
 loop-less : tie.Need-loop-less Inv-loop μ-loop
 loop-less c = search needs
 
 loop-again : tie.Need-loop-again Inv-loop μ-loop
-unfolding softValue
 loop-again c =
-    let at-loop = c .before .before in
+    let at-loop = c .before .before .before .before .before .before .before in
+    let args = at-loop .before .before .before .args in
+    let dump = args .dump .now in
+    let out = at-loop .loop .out in
+    let b = at-loop .loop .b in
     let inv = at-loop .loop .inv in
-    (search needs, simp length-set (inv .1), filled-more (softValue (at-loop .before .args .dump .now)) (at-loop .loop .out) (at-loop .loop .i) _ (omega arith) refl (inv .2))
+    let counted = c .before .before .before .before .before .values-of in
+    let n = counted .result in
+    let count : n ≡ valuesOf b = counted .ensures in
+    let made = c .before .before .copy in
+    let size : b * 512 + 16 + n - (b * 512 + 16) ≡ n = omega arith in
+    let part : made .last .1 .0 ≡ take n (drop (b * 480) (softOf dump)) =
+    made .ensures ∙ ap (λ (m : ℕ). take m (drop (b * 512 + 16) dump)) size ∙ values-of-block dump b n (omega arith) (omega arith) (omega arith) in
+    let room : b * 480 + n ≤ length out = omega arith in
+    let long : b * 480 + n ≤ length (softOf dump) = omega (arith, soft-length dump) in
+    let now-at : values-before b ≡ b * 480 = omega arith in
+    let then-at : values-before (b + 1) ≡ b * 480 + n = omega arith in
+    let front : take (b * 480) out ≡ take (b * 480) (softOf dump) = rw now-at at (inv .2) in (
+      search needs,
+      put-length out (softOf dump) (made .last .1 .0) (b * 480) n room long part ∙ inv .1,
+      rw then-at (put-more out (softOf dump) (made .last .1 .0) (b * 480) n room long part front),
+    )
 
 same-length : tie.Need-same-length Inv-loop μ-loop
 same-length c = search needs
 
 returns : tie.Need-returns Inv-loop μ-loop
-unfolding softOf
 returns c =
     let at-loop = c .before in
+    let dump = at-loop .before .before .before .args .dump .now in
     let out = at-loop .loop .out in
+    let b = at-loop .loop .b in
     let inv = at-loop .loop .inv in
-    let whole : at-loop .loop .i ≡ 1890 = omega arith in
-    sym (take-all (at-loop .loop .i) out (omega arith)) ∙ inv .2 ∙ ap (listed (softValue (at-loop .before .args .dump .now))) whole
+    let whole : values-before b ≡ 1890 = omega arith in
+    sym (take-all (values-before b) out (omega arith)) ∙ inv .2 ∙ take-all (values-before b) (softOf dump) (omega (arith, soft-length dump))
 
 pub read-spec : {M : Type 1} → statement M
 read-spec =
@@ -68,12 +115,20 @@ read-spec =
     Inv-loop
     μ-loop
     loop-holds
+    values-of-requires
+    mul-start
+    add-start
+    add-end
     mul-at
-    add-at
-    add-at-2
-    shared-slice-read-out
-    slice-write-out
-    add-i
+    add-to
+    sub-copy
+    part-copy-start
+    part-copy-end
+    sub-copy-2
+    part-copy-start-2
+    part-copy-end-2
+    copy-requires
+    add-b
     loop-less
     loop-again
     same-length

@@ -1,26 +1,23 @@
 -- `dump::write` meets its contract. The loop's invariant: the blocks passed stand in front. Assumes nothing.
-use mathlib.Core.Path.{_≡_, _∙_, ap, sym}
+use mathlib.Core.Path.{_≡_, _∙_, sym}
 use Prim.Native.Nat.{_≤_, _-_, _*_, _+_}
 use native.Mathlib.Omega.{arith}
 use borrow.Author.Needs.{needs}
-use lib.ListN.{length, take}
+use lib.ListN.{length, take, drop}
 use lib.Seq.{take-all}
-use Rattle.dump.specs.Listed.{joined}
-use Rattle.dump.specs.Block.{blockOf}
-use Rattle.dump.specs.Dump.{dumpOf}
-use Rattle.dump.proofs.Blocks.{block-length}
-use Rattle.dump.proofs.Joined.{written-more, written-length}
+use Rattle.dump.specs.Dump.{dumpOf, blockAt}
+use Rattle.dump.proofs.Blocks.{dump-length, block-of-dump}
+use Rattle.dump.proofs.Put.{put-more, put-length}
 use Rattle.dump.proofs.write.Statement.{statement}
 use Rattle.dump.proofs.write.Tie as tie
 
 abbrev Inv-loop : tie.InvT-loop
-Inv-loop soft out₀ b₀ out b = (b ≤ 4) × (length out ≡ 2048) × (take (b * 512) out ≡ joined (blockOf soft) b)
+Inv-loop soft out₀ b₀ out b = (b ≤ 4) × (length out ≡ 2048) × (take (b * 512) out ≡ take (b * 512) (dumpOf soft))
 
 abbrev μ-loop : tie.MeasureT-loop
 μ-loop soft out₀ b₀ out b = 4 - b
 
 loop-holds : tie.Need-loop-holds Inv-loop μ-loop
-unfolding joined
 loop-holds c = search needs
 
 mul-start : tie.Need-mul-start Inv-loop μ-loop
@@ -48,6 +45,7 @@ loop-less : tie.Need-loop-less Inv-loop μ-loop
 loop-less c = search needs
 
 loop-again : tie.Need-loop-again Inv-loop μ-loop
+unfolding blockAt
 loop-again c =
     let at-loop = c .before .before .before .before .before in
     let soft = at-loop .before .before .before .args .soft .now in
@@ -55,23 +53,27 @@ loop-again c =
     let b = at-loop .loop .b in
     let inv = at-loop .loop .inv in
     let made = c .before .before .write-block in
-    let room : b * 512 + 512 ≤ length out = omega arith in (
+    let block = made .last .1 .1 .0 in
+    let part : block ≡ take 512 (drop (b * 512) (dumpOf soft)) = made .ensures ∙ sym (block-of-dump soft b (omega arith)) in
+    let room : b * 512 + 512 ≤ length out = omega arith in
+    let long : b * 512 + 512 ≤ length (dumpOf soft) = omega (arith, dump-length soft) in
+    let next : (b + 1) * 512 ≡ b * 512 + 512 = omega arith in (
       search needs,
-      written-length (blockOf soft) 512 (block-length soft) out (made .last .1 .1 .0) b room (made .ensures) ∙ inv .1,
-      written-more (blockOf soft) 512 (block-length soft) out (made .last .1 .1 .0) b room (made .ensures) (inv .2),
+      put-length out (dumpOf soft) block (b * 512) 512 room long part ∙ inv .1,
+      rw next (put-more out (dumpOf soft) block (b * 512) 512 room long part (inv .2)),
     )
 
 same-length : tie.Need-same-length Inv-loop μ-loop
 same-length c = search needs
 
 returns : tie.Need-returns Inv-loop μ-loop
-unfolding dumpOf
 returns c =
     let at-loop = c .before in
-    let out = at-loop .loop .out in
-    let inv = at-loop .loop .inv in
+    let soft = at-loop .before .before .before .args .soft .now in
     let whole : at-loop .loop .b ≡ 4 = omega arith in
-    sym (take-all (at-loop .loop .b * 512) out (omega arith)) ∙ inv .2 ∙ ap (joined (blockOf (at-loop .before .before .before .args .soft .now))) whole
+    sym (take-all (at-loop .loop .b * 512) (at-loop .loop .out) (omega arith))
+    ∙ at-loop .loop .inv .2
+    ∙ take-all (at-loop .loop .b * 512) (dumpOf soft) (omega (arith, dump-length soft))
 
 pub write-spec : {M : Type 1} → statement M
 write-spec =
