@@ -15,7 +15,7 @@ use Rattle.poly.proofs.Coprime.{multiple-of-left, multiple-sum}
 use Rattle.column.specs.Shape.{Code, Word, Shape, levels, generator, degree, levelCode, Sound}
 use Rattle.column.specs.Level.{levelWord, highest, takenOff, reimaged, isWord}
 
-T→true : (b : Bool) → T b → b ≡ true
+pub T→true : (b : Bool) → T b → b ≡ true
 T→true true t = refl
 T→true false t = absurd t
 

@@ -8,6 +8,7 @@ use lib.Bits.{bitAnd, and-step, and-shr, and-zero-l, and-zero-r}
 use lib.Count.{ones, onesIn, ones-step}
 use lib.Pow.{shr-shr}
 use Rattle.poly.specs.Polynomial.{add, scale}
+use Rattle.poly.proofs.Product.{scale-one}
 use Rattle.poly.proofs.Sum.{Linear, add-zero-l, add-zero-r, add-swap, add-half, add-odd, scale-add, scale-zero}
 use Rattle.column.specs.Mask.{parity}
 
@@ -69,13 +70,8 @@ parity-linear m a b = both a m b
 pub parity-at : (m k : ℕ) → parity m (2 ^ k) ≡ m / 2 ^ k % 2
 unfolding scale
 parity-at m zero =
-    parity-step m 1 ∙ ap₂ add (digit (m % 2) (mod-lt m two-pos)) (parity-no-path (m / 2)) ∙ add-zero-r (m % 2)
+    parity-step m 1 ∙ ap₂ add (scale-one (m % 2) (mod-lt m two-pos)) (parity-no-path (m / 2)) ∙ add-zero-r (m % 2)
     ∙ ap (λ (t : ℕ). t % 2) (sym (div-one m))
-  where
-    digit : (c : ℕ) → c < 2 → scale c 1 ≡ c
-    digit zero h = refl
-    digit (suc zero) h = refl
-    digit (suc (suc c)) h = absurd (omega arith)
 parity-at m (suc k) =
     parity-step m (2 ^ suc k) ∙ ap₂ (λ (s t : ℕ). add (scale (m % 2) s) (parity (m / 2) t)) even half
     ∙ ap (λ (t : ℕ). add t (parity (m / 2) (2 ^ k))) (scale-zero (m % 2)) ∙ add-zero-l (parity (m / 2) (2 ^ k)) ∙ parity-at (m / 2) k

@@ -14,6 +14,7 @@ use Rattle.concatenated.specs.SoftPage.{columnOff}
 use Rattle.concatenated.specs.Decode.{Reading, found, spent, mark, marks, symbol, symbols, changed, rowOff, Level, rows}
 use Rattle.concatenated.specs.Written.{rowAt, writtenSum}
 use Rattle.concatenated.specs.Misread.{otherThan, othersThan, misread}
+use Rattle.concatenated.proofs.SetSizes.{at-most-one}
 
 pub row-off-length : (S : Shape) (i : ℕ) (r : List ℕ) (cs : List (List ℕ)) → length r ≡ length cs → length (rowOff S i r cs) ≡ length cs
 unfolding rowOff
@@ -49,10 +50,6 @@ cleared-length S ws page e zero = refl
 cleared-length S ws page e (suc i) =
     row-off-length S i (rowAt i ws) (cleared S ws page i) (row-length i ws ∙ e ∙ sym (cleared-length S ws page e i)) ∙ cleared-length S ws page e i
 
-at-most : (b : Bool) → cond b 1 0 ≤ 1
-at-most true = omega arith
-at-most false = omega arith
-
 -- the unerased columns whose symbol is not the written one are among the misread ones
 pub altered-columns-are-misread : (S : Shape) (i : ℕ) (rs : List Reading) (ws : List (List ℕ)) → All (λ s. reimaged S i (writtenSum S i s) ≡ getD s i 0) ws
     → total (changed (symbols S i rs) (marks rs) (rowAt i ws)) ≤ total (misread S i ws rs)
@@ -65,5 +62,5 @@ altered-columns-are-misread S i (found w n ∷ rs) (s ∷ ws) h = omega (arith, 
     go true e =
         let z : eqb (reimaged S i w) (getD s i 0) ≡ true = eq-eqb _ _ (ap (reimaged S i) (eqb-true w (writtenSum S i s) e) ∙ h .0) in
         rw (z, e) (omega arith)
-    go false e = rw e (at-most (not (eqb (reimaged S i w) (getD s i 0))))
+    go false e = rw e (at-most-one (not (eqb (reimaged S i w) (getD s i 0))))
 altered-columns-are-misread S i (spent n ∷ rs) (s ∷ ws) h = omega (arith, altered-columns-are-misread S i rs ws (h .1))

@@ -53,6 +53,12 @@ product-add-l =
 pub product-zero-l : (b : ℕ) → product 0 b ≡ 0
 product-zero-l b = linear-zero (λ a. product a b) (product-add-l b)
 
+pub half : (b : ℕ) → b * 2 / 2 ≡ b
+half b = omega arith
+
+pub even : (b : ℕ) → b * 2 % 2 ≡ 0
+even b = omega arith
+
 -- x times b
 pub product-double-r : (a b : ℕ) → product a (b * 2) ≡ product a b * 2
 unfolding scale
@@ -60,12 +66,6 @@ product-double-r a b =
     product-step a (b * 2)
     ∙ ap₂ (λ (s t : ℕ). add (product a s * 2) (scale t a)) (half b) (even b)
     ∙ add-zero-r (product a b * 2)
-  where
-    half : (b : ℕ) → b * 2 / 2 ≡ b
-    half b = omega arith
-
-    even : (b : ℕ) → b * 2 % 2 ≡ 0
-    even b = omega arith
 
 pub product-double-l : (a b : ℕ) → product (a * 2) b ≡ product a b * 2
 product-double-l a =
@@ -92,16 +92,18 @@ pub product-one-r : (a : ℕ) → product a 1 ≡ a
 unfolding scale
 product-one-r a = product-digit-r a 1 (omega arith)
 
+-- a digit times 1
+pub scale-one : (c : ℕ) → c < 2 → scale c 1 ≡ c
+unfolding scale
+scale-one zero h = refl
+scale-one (suc zero) h = refl
+scale-one (suc (suc c)) h = absurd (omega arith)
+
 pub product-one-l : (b : ℕ) → product 1 b ≡ b
 unfolding scale
 product-one-l =
     bin-ind (λ (b : ℕ). product 1 b ≡ b) (product-zero-r 1)
-    (λ b ih. product-step 1 b ∙ ap₂ (λ (s t : ℕ). add (s * 2) t) ih (digit (b % 2) (mod-lt b (zero-lt-suc 1))) ∙ add-digit b)
-  where
-    digit : (c : ℕ) → c < 2 → scale c 1 ≡ c
-    digit zero h = refl
-    digit (suc zero) h = refl
-    digit (suc (suc c)) h = absurd (omega arith)
+    (λ b ih. product-step 1 b ∙ ap₂ (λ (s t : ℕ). add (s * 2) t) ih (scale-one (b % 2) (mod-lt b (zero-lt-suc 1))) ∙ add-digit b)
 
 product-digit-l : (c b : ℕ) → c < 2 → product c b ≡ scale c b
 unfolding scale

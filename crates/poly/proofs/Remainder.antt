@@ -9,7 +9,7 @@ use lib.Arith.{bin-ind, half-le}
 use lib.Pow.{pow-pos, split}
 use Rattle.poly.specs.Polynomial.{add, scale, product, reduced, remainderIn, remainder, Multiple, Degree}
 use Rattle.poly.proofs.Sum.{Linear, linear-zero, add-assoc, add-comm, add-self, add-again, add-cancel, add-zero-l, add-zero-r, add-swap, add-half, add-odd, add-shr, add-double, add-digit, add-high, add-lt, scale-odd}
-use Rattle.poly.proofs.Product.{product-step, product-comm, product-assoc, product-zero-r, product-add-l, product-double-l, product-digit-r, product-right-comm}
+use Rattle.poly.proofs.Product.{half, even, product-step, product-comm, product-assoc, product-zero-r, product-add-l, product-double-l, product-digit-r, product-right-comm}
 
 -- a number without a digit at d or above
 pub small-of-div : (d w : ℕ) → w / 2 ^ d ≡ 0 → w < 2 ^ d
@@ -79,12 +79,6 @@ module _ (d g : ℕ) where
   pub remainder-double : (w : ℕ) → remainder d g (w * 2) ≡ reduced d g (remainder d g w * 2)
   remainder-double w =
       remainder-step (w * 2) ∙ ap₂ (λ (s t : ℕ). reduced d g (add (remainder d g s * 2) t)) (half w) (even w) ∙ ap (reduced d g) (add-zero-r (remainder d g w * 2))
-    where
-      half : (w : ℕ) → w * 2 / 2 ≡ w
-      half w = omega arith
-
-      even : (w : ℕ) → w * 2 % 2 ≡ 0
-      even w = omega arith
 
   -- a number with fewer digits than g is its own remainder
   pub remainder-small : (w : ℕ) → w < 2 ^ d → remainder d g w ≡ w

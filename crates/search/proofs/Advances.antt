@@ -17,14 +17,17 @@ use mir.Facts.{toZ-ofZ}
 use Rattle.column.specs.Mask.{parity}
 use Rattle.column.proofs.Parity.{parity-no-mask}
 use Rattle.paths.specs.Stack.{Nodes, grow}
+use Rattle.paths.proofs.Booleans.{and-both}
 use Rattle.heap.specs.Heap.{weigh, Every}
 use Rattle.heap.specs.Holds.{weighList}
-use Rattle.heap.proofs.Lists.{every-kept, out-kept, first-is-head}
+use Rattle.heap.proofs.Lists.{out-kept, first-is-head}
 use Rattle.trellis.specs.Order.{bit}
 use Rattle.trellis.specs.Keys.{Key, key, keyPasses}
+use Rattle.trellis.proofs.Order.{bit-below}
 use Rattle.stack.specs.Places.{Upto, Small, Out}
 use Rattle.search.specs.Steps.{Given, Good, Held, tableExtension, tableNodes, Next, Advanced}
 use Rattle.stack.proofs.KeyOrder.{key-dec, upto-same, upto-anti, upto-trans}
+use Rattle.stack.proofs.Outs.{stay}
 use Rattle.stack.proofs.Sums.{add-near, near-fits}
 use Rattle.search.proofs.NextBit.{check, no-mask, let-in, dead-in, one-in, bit-less}
 use Rattle.search.proofs.Growing.{ordered-grow, weigh-full, weigh-none, weigh-one, weigh-both}
@@ -43,9 +46,6 @@ good-none n = record { short = omega arith; small = omega arith; near = omega ar
 -- a path shorter than a word has a number that can be doubled
 pub good-double : (n : ℕ) (k : Key) → n ≤ 42 → k .len < n → Good n k → k .bits < 2199023255552
 good-double n k h l g = omega (arith, g .small, pow-mono {i = k .len} {j = 41} (omega arith))
-
-stay : (P : Key → Type 0) (f g : ℕ → Key) (n m : ℕ) (x : Key) → ((h : Key → ℕ) → weigh h g m ≤ weigh h f n + h x) → P x → Every P f n → Every P g m
-stay = every-kept Upto key-dec upto-same upto-anti upto-trans
 
 went : (P : Key → Type 0) (f : ℕ → Key) (n : ℕ) (x y : Key) → ((h : Key → ℕ) → h y ≤ weigh h f n + h x) → P x → Every P f n → P y
 went = out-kept Upto key-dec upto-same upto-anti upto-trans
@@ -69,11 +69,6 @@ flag-other zero (suc u) h e k = false≢true k
 flag-other (suc zero) zero h e k = true≢false k
 flag-other (suc zero) (suc u) h e k = omega arith
 flag-other (suc (suc t)) u h e k = omega arith
-
-and-true : (a b : Bool) → (a && b) ≡ true → (a ≡ true) × (b ≡ true)
-and-true true true e = (refl, refl)
-and-true true false e = absurd (false≢true e)
-and-true false b e = absurd (false≢true e)
 
 -- a sum that is handed on
 pub next-at : (f₀ f : ℕ → Key) (n m : ℕ) (z : ℤ) (l b : ℕ) → SFits w16 z → Next f₀ f n m (key z l b) → Next f₀ f n m (key (toZ w16 (ofZ w16 z)) l b)
@@ -109,15 +104,11 @@ module _ (n : ℕ) (soft left right : List ℕ) (table : List ℤ) (g : Given n 
       record {
         good = record {
           short = omega arith;
-          small = rw pow-suc (omega (arith, q .small, small t));
-          near = omega (arith, add-near (p .sum) (getD table (bit t * 8 + getD soft (p .len) 0) (pos 0)), entry-near (p .len) (bit t) h (small t), q .near);
+          small = rw pow-suc (omega (arith, q .small, bit-below t));
+          near = omega (arith, add-near (p .sum) (getD table (bit t * 8 + getD soft (p .len) 0) (pos 0)), entry-near (p .len) (bit t) h (bit-below t), q .near);
         };
         some = omega arith;
       }
-    where
-      small : (t : Bool) → bit t < 2
-      small true = omega arith
-      small false = omega arith
 
   -- ---- a step
 
@@ -186,7 +177,7 @@ module _ (n : ℕ) (soft left right : List ℕ) (table : List ℤ) (g : Given n 
 
     passes-free : (eqb x 0 && eqb y 0) ≡ true → (t : Bool) → keyPasses left right (E t p) ≡ true
     passes-free h t =
-        let e = and-true (eqb x 0) (eqb y 0) h in
+        let e = and-both (eqb x 0) (eqb y 0) h in
         checks t ∙ ap₂ _&&_ (none x (b * 2 + bit t) (e .0)) (none y (b * 2 + bit t) (e .1))
 
     pub advanced-both : (f₁ : ℕ → Key) (t u : ℕ) (kt ku r : Key) → (eqb x 0 && eqb y 0) ≡ true → t < 2 → u ≡ 1 - t

@@ -17,7 +17,8 @@ key-sum l b z z′ e = ap (λ (x : ℤ). key x l b) e
 root : (f : ℕ → Key) (n : ℕ) → Heap Upto f n → Every (Upto (f 0)) f n
 root f n p = root-first Upto upto-trans upto-same f n p
 
-stay : (P : Key → Type 0) (f g : ℕ → Key) (n m : ℕ) (x : Key) → ((h : Key → ℕ) → weigh h g m ≤ weigh h f n + h x) → P x → Every P f n → Every P g m
+-- what holds of every path that is there, and of one that comes, holds of those that stay
+pub stay : (P : Key → Type 0) (f g : ℕ → Key) (n m : ℕ) (x : Key) → ((h : Key → ℕ) → weigh h g m ≤ weigh h f n + h x) → P x → Every P f n → Every P g m
 stay = every-kept Upto key-dec upto-same upto-anti upto-trans
 
 -- ---- one in, one out

@@ -13,6 +13,7 @@ use Rattle.column.specs.Trellis.{Exists, ExistsWhole, ExistsSupercode}
 use Rattle.column.specs.Mask.{begins}
 use Rattle.column.proofs.Begins.{begins-exists, exists-begins}
 use Rattle.column.proofs.Supercodes.{Split}
+use Rattle.column.proofs.Levels.{T→true}
 use Rattle.paths.specs.Paths.{Path}
 use Rattle.paths.proofs.Booleans.{and-both, both-and}
 use Rattle.trellis.specs.Values.{Values}
@@ -22,10 +23,6 @@ use Rattle.trellis.proofs.Order.{number-below}
 
 true-holds : (b : Bool) → b ≡ true → T b
 true-holds b e = subst T (sym e) tt
-
-holds-true : (b : Bool) → T b → b ≡ true
-holds-true true h = refl
-holds-true false h = absurd h
 
 -- 01: "A path exists in a code's trellis if it begins some codeword."
 pub exists-exactly : (n : ℕ) (C : Code) → Degree (C .degree) (C .generator) → (p : Path) → (existsIn n C p ≡ true) ↔ ((length p ≤ n) × Exists n C (length p) (number p))
@@ -37,7 +34,7 @@ exists-exactly n C deg p = (
       (l, begins-exists n C deg (length p) (number p) l (true-holds (begins n C (length p) (number p)) (h .1)) (number-below p)),
   λ h.
       both-and (leb (length p) n) (begins n C (length p) (number p)) (le-leb (length p) n (h .0))
-      (holds-true (begins n C (length p) (number p)) (exists-begins n C deg (length p) (number p) (h .1))),
+      (T→true (begins n C (length p) (number p)) (exists-begins n C deg (length p) (number p) (h .1))),
 )
 
 module _ (S : Shape) (vs : Values) (soft : List ℕ) (i : ℕ) where
