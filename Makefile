@@ -5,7 +5,7 @@ test: tools listed
 	@tests/run-vectors tests/vectors tests/libfec tests/known
 	@tests/run-station
 	@tests/run-readpage
-	@rt ci
+	@RT_JOBS=4 rt ci
 
 run: tools
 	@mkdir -p target

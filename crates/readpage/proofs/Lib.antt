@@ -1,6 +1,2 @@
-pub mod Appended
-pub mod Decimal
-pub mod Hex
-pub mod Lines
 pub mod Pages
 pub mod Reading

@@ -13,7 +13,8 @@ use Rattle.page.specs.Outcomes.{outcomeOf, dataAfter}
 use Rattle.page.specs.declared.pages.PageOutcome.{PageOutcome}
 use Rattle.store.specs.Questions.{firstAbove}
 use Rattle.store.specs.Pages.{refusedPage, decodedPage, askPage, PageDecoded}
-use Rattle.readpage.specs.Report.{refusedLine, pageText, decodedText}
+use Rattle.listing.specs.Lines.{refusedLine, pageText}
+use Rattle.readpage.specs.Report.{decodedText}
 
 refused-text : (d : Decoded) → (outcomeOf d .number ≡ 0 → ⊥) → refusedLine (outcomeOf d .number) (outcomeOf d .place) ≡ decodedText d
 unfolding outcomeOf decodedText

@@ -17,8 +17,9 @@ use Rattle.store.specs.Questions.{firstAbove}
 use Rattle.store.specs.declared.Outcome.{Outcome}
 use Rattle.store.specs.declared.Outcome.the-variants.{Done, Refused}
 use Rattle.store.proofs.DumpAnswers.{read-passes, no-value-above}
-use Rattle.readpage.specs.Text.{Appended}
-use Rattle.readpage.specs.Report.{refusedLine, decodedText, readText, outputOf}
+use Rattle.listing.specs.Text.{Appended}
+use Rattle.listing.specs.Lines.{refusedLine}
+use Rattle.readpage.specs.Report.{decodedText, readText, outputOf}
 
 -- where nothing is refused, the values are those of the dump
 pub soft-read : {due r : Outcome} {made old new : List ℕ} → Filled due made old r new → r ≡ Done → new ≡ made

@@ -5,8 +5,8 @@ use native.Mathlib.Omega.{arith}
 use borrow.Author.Needs.{needs}
 use lib.Dec.{T, ltb, ltb→lt}
 use Rattle.trellis.specs.Demand.{supercode}
-use Rattle.readpage.specs.Report.{pageText}
-use Rattle.readpage.proofs.Appended.{then, as-text, room-left}
+use Rattle.listing.specs.Lines.{pageText}
+use Rattle.listing.proofs.Appended.{then, as-text, room-left}
 use Rattle.readpage.proofs.Pages.{text-of-refused, text-of-answered}
 use Rattle.readpage.proofs.page_text.Statement.{statement}
 use Rattle.readpage.proofs.page_text.Tie as tie

@@ -7,7 +7,7 @@ use native.Mathlib.Omega.{arith}
 use lib.Dec.{T, leb, leb→le}
 use lib.ListN.{length, getD, set, take}
 use lib.Seq.{take-all, take-suc, take-suc-set}
-use Rattle.readpage.specs.Text.{Appended}
+use Rattle.listing.specs.Text.{Appended}
 
 -- one more byte of a piece
 pub copied-more : (old out piece : List ℕ) (at i v : ℕ) → at + i < length out → i < length piece → v ≡ getD piece i 0

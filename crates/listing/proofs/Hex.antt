@@ -7,7 +7,7 @@ use native.Mathlib.Omega.{arith}
 use lib.ListN.{length, length-set, getD, set, take}
 use lib.Seq.{take-all, take-suc, take-suc-set}
 use Rattle.io.specs.Digits.{glyph}
-use Rattle.readpage.specs.Text.{hexOf, Appended}
+use Rattle.listing.specs.Text.{hexOf, Appended}
 
 hex-snoc : (bs : List ℕ) (b : ℕ) → hexOf (bs ++ (b ∷ [])) ≡ hexOf bs ++ (glyph (b / 16) ∷ glyph (b % 16) ∷ [])
 unfolding hexOf

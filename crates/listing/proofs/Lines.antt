@@ -7,7 +7,7 @@ use native.Mathlib.Omega.{arith}
 use borrow.Author.Tests.{eq-eqb, ne-eqb}
 use lib.ListN.{length, getD, drop}
 use lib.Seq.{drop-cons, drop-length}
-use Rattle.readpage.specs.Text.{lineLength}
+use Rattle.listing.specs.Text.{lineLength}
 
 -- at another byte than a newline the line goes on
 pub line-more : (s : List ℕ) (i : ℕ) → i < length s → (getD s i 0 ≡ 10 → ⊥) → i + lineLength (drop i s) ≡ i + 1 + lineLength (drop (i + 1) s)

@@ -1,8 +1,8 @@
--- `readpage::hex_digit` meets its contract. Assumes nothing.
+-- `listing::hex_digit` meets its contract. Assumes nothing.
 use borrow.Author.Tests.{lt-ltb, le-ltb}
 use borrow.Author.Needs.{needs}
-use Rattle.readpage.proofs.hex_digit.Statement.{statement}
-use Rattle.readpage.proofs.hex_digit.Tie as tie
+use Rattle.listing.proofs.hex_digit.Statement.{statement}
+use Rattle.listing.proofs.hex_digit.Tie as tie
 
 add-result : tie.Need-add-result
 add-result c = search needs

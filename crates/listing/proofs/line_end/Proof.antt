@@ -1,13 +1,13 @@
--- `readpage::line_end` meets its contract. The loop's invariant: the line ends where the rest of it from here ends. Assumes nothing.
+-- `listing::line_end` meets its contract. The loop's invariant: the line ends where the rest of it from here ends. Assumes nothing.
 use mathlib.Core.Path.{_≡_, ap, sym, _∙_}
 use Prim.Native.Nat.{ℕ, _+_, _-_, _≤_}
 use native.Mathlib.Omega.{arith}
 use borrow.Author.Needs.{needs}
 use lib.ListN.{length, drop}
-use Rattle.readpage.specs.Text.{lineLength}
-use Rattle.readpage.proofs.Lines.{line-more, line-here, line-none}
-use Rattle.readpage.proofs.line_end.Statement.{statement}
-use Rattle.readpage.proofs.line_end.Tie as tie
+use Rattle.listing.specs.Text.{lineLength}
+use Rattle.listing.proofs.Lines.{line-more, line-here, line-none}
+use Rattle.listing.proofs.line_end.Statement.{statement}
+use Rattle.listing.proofs.line_end.Tie as tie
 
 abbrev Inv-loop : tie.InvT-loop
 Inv-loop text from i₀ i = (from ≤ i) × (i ≤ length text) × (from + lineLength (drop from text) ≡ i + lineLength (drop i text))

@@ -1,14 +1,14 @@
--- `readpage::append_hex` meets its contract. The loop's invariant: the bytes passed stand in hexadecimal behind what was there. Assumes nothing.
+-- `listing::append_hex` meets its contract. The loop's invariant: the bytes passed stand in hexadecimal behind what was there. Assumes nothing.
 use mathlib.Core.Path.{_≡_, refl}
 use mathlib.Core.List.{_++_}
 use Prim.Native.Nat.{_+_, _-_, _*_, _≤_}
 use native.Mathlib.Omega.{arith}
 use borrow.Author.Needs.{needs}
 use lib.ListN.{length, take, length-set}
-use Rattle.readpage.specs.Text.{hexOf}
-use Rattle.readpage.proofs.Hex.{hex-none, hex-more, hex-all}
-use Rattle.readpage.proofs.append_hex.Statement.{statement}
-use Rattle.readpage.proofs.append_hex.Tie as tie
+use Rattle.listing.specs.Text.{hexOf}
+use Rattle.listing.proofs.Hex.{hex-none, hex-more, hex-all}
+use Rattle.listing.proofs.append_hex.Statement.{statement}
+use Rattle.listing.proofs.append_hex.Tie as tie
 
 abbrev Inv-loop : tie.InvT-loop
 Inv-loop bytes out₀ at i₀ out i = (i ≤ 150) × (length out ≡ length out₀) × (take (at + 2 * i) out ≡ take at out₀ ++ hexOf (take i bytes))

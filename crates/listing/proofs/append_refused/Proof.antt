@@ -1,10 +1,10 @@
--- `readpage::append_refused` meets its contract: its pieces one behind the other. Assumes nothing.
+-- `listing::append_refused` meets its contract: its pieces one behind the other. Assumes nothing.
 use borrow.Author.Needs.{needs}
-use Rattle.readpage.specs.Text.{ascii}
-use Rattle.readpage.specs.Report.{refusedLine}
-use Rattle.readpage.proofs.Appended.{then}
-use Rattle.readpage.proofs.append_refused.Statement.{statement}
-use Rattle.readpage.proofs.append_refused.Tie as tie
+use Rattle.listing.specs.Text.{ascii}
+use Rattle.listing.specs.Lines.{refusedLine}
+use Rattle.listing.proofs.Appended.{then}
+use Rattle.listing.proofs.append_refused.Statement.{statement}
+use Rattle.listing.proofs.append_refused.Tie as tie
 
 slice-aggregate-append : tie.Need-slice-aggregate-append
 slice-aggregate-append c = search needs

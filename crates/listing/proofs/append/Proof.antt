@@ -1,13 +1,13 @@
--- `readpage::append` meets its contract. The loop's invariant: the bytes passed stand behind what was there. Assumes nothing.
+-- `listing::append` meets its contract. The loop's invariant: the bytes passed stand behind what was there. Assumes nothing.
 use mathlib.Core.Path.{_≡_, refl}
 use mathlib.Core.List.{_++_}
 use Prim.Native.Nat.{_+_, _-_, _≤_}
 use native.Mathlib.Omega.{arith}
 use borrow.Author.Needs.{needs}
 use lib.ListN.{length, take, length-set}
-use Rattle.readpage.proofs.Appended.{copied-none, copied-more, copied-all}
-use Rattle.readpage.proofs.append.Statement.{statement}
-use Rattle.readpage.proofs.append.Tie as tie
+use Rattle.listing.proofs.Appended.{copied-none, copied-more, copied-all}
+use Rattle.listing.proofs.append.Statement.{statement}
+use Rattle.listing.proofs.append.Tie as tie
 
 abbrev Inv-loop : tie.InvT-loop
 Inv-loop piece out₀ at i₀ out i = (i ≤ length piece) × (length out ≡ length out₀) × (take (at + i) out ≡ take at out₀ ++ take i piece)

@@ -1,13 +1,13 @@
--- `readpage::append_decimal` meets its contract: the digits that the library gives are the decimal number. Assumes nothing.
+-- `listing::append_decimal` meets its contract: the digits that the library gives are the decimal number. Assumes nothing.
 use mathlib.Core.Path.{_≡_, _∙_}
 use Prim.Native.Nat.{_≤_}
 use native.Mathlib.Omega.{arith}
 use borrow.Author.Needs.{needs}
 use lib.ListN.{length, take}
-use Rattle.readpage.proofs.Appended.{as-text}
-use Rattle.readpage.proofs.Decimal.{at-most-20, digits-are-decimal}
-use Rattle.readpage.proofs.append_decimal.Statement.{statement}
-use Rattle.readpage.proofs.append_decimal.Tie as tie
+use Rattle.listing.proofs.Appended.{as-text}
+use Rattle.listing.proofs.Decimal.{at-most-20, digits-are-decimal}
+use Rattle.listing.proofs.append_decimal.Statement.{statement}
+use Rattle.listing.proofs.append_decimal.Tie as tie
 
 decimal-requires : tie.Need-decimal-requires
 decimal-requires c κs = search needs

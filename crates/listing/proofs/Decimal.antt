@@ -8,7 +8,7 @@ use native.Mathlib.Omega.{arith}
 use borrow.Author.Tests.{lt-ltb, le-ltb, ltb-true, ltb-false}
 use lib.Dec.{ltb}
 use Rattle.io.specs.Digits.{glyph, digits, Fewest}
-use Rattle.readpage.specs.Text.{decimalIn}
+use Rattle.listing.specs.Text.{decimalIn}
 
 pow-positive : (k : ℕ) → 1 ≤ 10 ^ k
 pow-positive zero = omega arith

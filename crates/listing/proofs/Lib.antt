@@ -1,0 +1,4 @@
+pub mod Appended
+pub mod Decimal
+pub mod Hex
+pub mod Lines

@@ -1,0 +1,113 @@
+// Lines of text in a buffer: decimal and hexadecimal numbers, and the lines of a page's listing (01, "The station's interface").
+ghost use mathlib.Core.Path.{_≡_};
+ghost use Prim.Native.Nat.{_+_, _≤_, _<_};
+ghost use lib.ListN.{length, drop};
+ghost use Rattle.io.specs.Digits.{glyph};
+ghost use Rattle.listing.specs.Text.{decimal, hexOf, lineLength, Appended};
+ghost use Rattle.listing.specs.Lines.{okLine, levelLine, dataLine, refusedLine};
+
+// ---- text behind the first `at` bytes of a buffer; each gives the place where it ends
+
+fn append(piece: &[u8], out: &mut [u8], at: usize) -> usize
+    requires { ⌜ at + length (now piece) ≤ length (now out) ⌝ }
+    ensures { λ r. ⌜ Appended at (now (piece .entry)) (length (now (piece .entry))) (now (out .entry)) r (now (out .exit)) ⌝ }
+{
+    let mut i = 0;
+    while i < piece.len() {
+        out[at + i] = piece[i];
+        i += 1;
+    }
+    at + i
+}
+
+fn append_decimal(n: u64, out: &mut [u8], at: usize) -> usize
+    requires { ⌜ at + 20 ≤ length (now out) ⌝ }
+    ensures { λ r. ⌜ Appended at (decimal n) 20 (now (out .entry)) r (now (out .exit)) ⌝ }
+{
+    let mut digits = [0u8; 20];
+    let k = io::decimal(n, &mut digits);
+    append(&digits[..k], out, at)
+}
+
+// The digit of a number below 16.
+fn hex_digit(d: u8) -> u8
+    requires { ⌜ d < 16 ⌝ }
+    ensures { λ r. ⌜ r ≡ glyph d ⌝ }
+{
+    if d < 10 { 48 + d } else { 87 + d }
+}
+
+fn append_hex(bytes: &[u8], out: &mut [u8], at: usize) -> usize
+    requires { ⌜ (length (now bytes) ≡ 150) × (at + 300 ≤ length (now out)) ⌝ }
+    ensures { λ r. ⌜ Appended at (hexOf (now (bytes .entry))) 300 (now (out .entry)) r (now (out .exit)) ⌝ }
+{
+    let mut i = 0;
+    while i < 150 {
+        let b = bytes[i];
+        let high = at + 2 * i;
+        out[high] = hex_digit(b / 16);
+        out[high + 1] = hex_digit(b % 16);
+        i += 1;
+    }
+    at + 300
+}
+
+// ---- the lines
+
+pub fn append_ok(steps: u64, out: &mut [u8], at: usize) -> usize
+    requires { ⌜ at + 35 ≤ length (now out) ⌝ }
+    ensures { λ r. ⌜ Appended at (okLine steps) 35 (now (out .entry)) r (now (out .exit)) ⌝ }
+{
+    let number = append(b"page ok steps ", out, at);
+    let end = append_decimal(steps, out, number);
+    append(b"\n", out, end)
+}
+
+pub fn append_level(level: u64, changed: u8, erased: u8, out: &mut [u8], at: usize) -> usize
+    requires { ⌜ at + 84 ≤ length (now out) ⌝ }
+    ensures { λ r. ⌜ Appended at (levelLine level changed erased) 84 (now (out .entry)) r (now (out .exit)) ⌝ }
+{
+    let number = append(b"level ", out, at);
+    let numbered = append_decimal(level, out, number);
+    let first = append(b" changed ", out, numbered);
+    let counted = append_decimal(changed as u64, out, first);
+    let second = append(b" erased ", out, counted);
+    let end = append_decimal(erased as u64, out, second);
+    append(b"\n", out, end)
+}
+
+pub fn append_data(bytes: &[u8], out: &mut [u8], at: usize) -> usize
+    requires { ⌜ (length (now bytes) ≡ 150) × (at + 306 ≤ length (now out)) ⌝ }
+    ensures { λ r. ⌜ Appended at (dataLine (now (bytes .entry))) 306 (now (out .entry)) r (now (out .exit)) ⌝ }
+{
+    let digits = append(b"data ", out, at);
+    let end = append_hex(bytes, out, digits);
+    append(b"\n", out, end)
+}
+
+pub fn append_refused(number: u64, place: u64, out: &mut [u8], at: usize) -> usize
+    requires { ⌜ at + 61 ≤ length (now out) ⌝ }
+    ensures { λ r. ⌜ Appended at (refusedLine number place) 61 (now (out .entry)) r (now (out .exit)) ⌝ }
+{
+    let first = append(b"page refused ", out, at);
+    let numbered = append_decimal(number, out, first);
+    let second = append(b" place ", out, numbered);
+    let end = append_decimal(place, out, second);
+    append(b"\n", out, end)
+}
+
+// Where the line that begins at `from` ends, behind its newline.
+pub fn line_end(text: &[u8], from: usize) -> usize
+    requires { ⌜ from < length (now text) ⌝ }
+    ensures { λ r. ⌜ r ≡ from + lineLength (drop from (now (text .entry))) ⌝ }
+    ensures { λ r. ⌜ (from < r) × (r ≤ length (now (text .entry))) ⌝ }
+{
+    let mut i = from;
+    while i < text.len() {
+        if text[i] == 10 {
+            return i + 1;
+        }
+        i += 1;
+    }
+    i
+}
