@@ -54,20 +54,6 @@ module _ (n : ℕ) (C : Code) where
   pub zero-exists : (t : ℕ) → Exists n C t 0
   zero-exists t = (0, (pow-pos n, (0, product-zero-l (C .generator))), Nat.zero-div (2 ^ (n - t)))
 
-  -- the word that it begins says how
-  pub every-path-goes-on : (t p : ℕ) → t < n → Exists n C t p → Exists n C (suc t) (p * 2) ⊎ Exists n C (suc t) (p * 2 + 1)
-  every-path-goes-on t p h e = by-digit (w / 2 ^ (n - suc t)) refl (half t w h ∙ e .2)
-    where
-      w : ℕ
-      w = e .0
-
-      by-digit : (q : ℕ) → w / 2 ^ (n - suc t) ≡ q → q / 2 ≡ p → Exists n C (suc t) (p * 2) ⊎ Exists n C (suc t) (p * 2 + 1)
-      by-digit q f k =
-          ⊎-elim
-          (λ l. let c : q ≡ p * 2 = omega arith in inl (w, e .1, f ∙ c))
-          (λ m. let c : q ≡ p * 2 + 1 = omega arith in inr (w, e .1, f ∙ c))
-          (lt-or-le (q % 2) 1)
-
   -- ---- the test
 
   module _ (deg : Degree (C .degree) (C .generator)) where

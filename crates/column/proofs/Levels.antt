@@ -57,9 +57,6 @@ module _ (S : Shape) (ok : Sound S) where
   top-lt : (k : ℕ) → k < levels S → top k < levels S
   top-lt k h = omega arith
 
-  sound-at : (k : ℕ) → k < levels S → Degree (degree S (top k)) (generator S (top k))
-  sound-at k h = ok .degrees (top k) (top-lt k h)
-
   -- ---- one level word
 
   module _ (i s : ℕ) (hi : i < levels S) where

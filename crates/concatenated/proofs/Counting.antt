@@ -48,13 +48,3 @@ in-reach-by-totals N T w marks c lw lm lc h =
       changed-total-is-e w marks c (lm ∙ sym lw) (lc ∙ sym lw) ∙ ap (λ (n : ℕ). errors n w marks c) lw,
       erased-total-is-s marks ∙ ap (λ (n : ℕ). erasures n marks) lm,
     )
-
-pub totals-in-reach : (N T : ℕ) (w : List ℕ) (marks : List Bool) (c : List ℕ) → length w ≡ N → length marks ≡ N → length c ≡ N
-    → InReach N T w marks c → 2 * total (changed w marks c) + total marks ≤ T
-totals-in-reach N T w marks c lw lm lc h =
-    omega (
-      arith,
-      h,
-      changed-total-is-e w marks c (lm ∙ sym lw) (lc ∙ sym lw) ∙ ap (λ (n : ℕ). errors n w marks c) lw,
-      erased-total-is-s marks ∙ ap (λ (n : ℕ). erasures n marks) lm,
-    )

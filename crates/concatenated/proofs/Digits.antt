@@ -130,7 +130,3 @@ group-of-bytes b0 b1 b2 = refl
 pub group-of-symbols : (s0 s1 s2 s3 : ℕ) → let b = bytesOf s0 s1 s2 s3 in digits 256 3 (joined 64 0 (s0 ∷ s1 ∷ s2 ∷ s3 ∷ [])) ≡ b .b0 ∷ b .b1 ∷ b .b2 ∷ []
 unfolding digits
 group-of-symbols s0 s1 s2 s3 = refl
-
-pub bytes-of-column : (x : ℕ) → let b = columnBytes x in digits 256 4 (x * 4) ≡ b .b0 ∷ b .b1 ∷ b .b2 ∷ b .b3 ∷ []
-unfolding digits
-bytes-of-column x = refl

@@ -64,11 +64,6 @@ page-in-bytes-length P rs =
     flat-length (columnInBytes P) (P .columnBytes) (λ x. digits-length 256 (P .columnBytes) (x * 2 ^ (8 * P .columnBytes - P .shape .bits))) (map (columnOf (P .shape)) (columnsOf (P .columns) rs))
     ∙ ap (λ (t : ℕ). t * P .columnBytes) (length-map (columnsOf (P .columns) rs) (columnOf (P .shape)) ∙ columns-of-length (P .columns) rs)
 
-pub page-in-bytes-below : (P : Format) (rs : List (List ℕ)) → Below 256 (pageInBytes P rs)
-unfolding pageInBytes columnInBytes
-page-in-bytes-below P rs =
-    flat-below (columnInBytes P) 256 (λ x. digits-below 256 (P .columnBytes) (x * 2 ^ (8 * P .columnBytes - P .shape .bits)) (lit< tt)) (map (columnOf (P .shape)) (columnsOf (P .columns) rs))
-
 -- ---- the rows and columns of written data
 
 module _ (P : Format) (ok : SoundFormat P) (outer : RowDecoder) (encoded : RowEncoder) (Codeword : ℕ → List ℕ → Type 0) (laws : OuterLaws P outer encoded Codeword) (bytes : List ℕ) where
@@ -157,11 +152,6 @@ module _ (P : Format) (ok : SoundFormat P) (outer : RowDecoder) (encoded : RowEn
   written-column-reimages-to-its-symbols i j h l =
       ap (reimaged S i) (sym (sum-from-level-0-is-the-column (columnSymbols rs j)))
       ∙ reimage-of-sum S (ok .shape-sound) (λ k. getD (columnSymbols rs j) k 0) 0 i (written-symbols-in-range j l) (omega arith) h ∙ written-symbol i j h
-
-  -- what is left of it from level i on is a word of that level, and re-images to its symbol there
-  pub written-sum-is-a-word : (i j : ℕ) → i < levels S → j < P .columns → Word (S .bits) (levelCode S i) (writtenSum S i (columnSymbols rs j))
-  unfolding writtenSum
-  written-sum-is-a-word i j h l = sum-is-word S (ok .shape-sound) (λ k. getD (columnSymbols rs j) k 0) i (written-symbols-in-range j l) h
 
   pub written-sums-reimage : All (λ s. (i : ℕ) → i < levels S → reimaged S i (writtenSum S i s) ≡ getD s i 0) ws
   unfolding columnsOf writtenSum

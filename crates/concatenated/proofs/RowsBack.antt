@@ -23,9 +23,6 @@ pub level-with-row : (S : Shape) (outer : RowDecoder) (read : Reader) (page : Li
 unfolding run onward settle
 level-with-row S outer read page i cs ls n r e o = ap (onward S outer read i) e ∙ ap (settle S outer i cs (map (read i) cs) ls n) o
 
-columns-same : (cs ds : List (List ℕ)) (ls ks : List Level) (m n : ℕ) → going cs ls m ≡ going ds ks n → cs ≡ ds
-columns-same cs ds ls ks m n e = cc
-
 -- ---- a decoder that gets each row right
 
 module _ (S : Shape) (read : Reader) (ws page : List (List ℕ)) where
@@ -91,14 +88,3 @@ module _ (P : Format) (outer : RowDecoder) (encoded : RowEncoder) (Codeword : �
       → (ls : List Level) × (n : ℕ) × (decoded S outer read page ≡ answered ls n) × (rows ls ≡ listed (λ i. rowAt i ws) (levels S))
   written-rows-come-back within =
       (_, _, answer-is-written (λ i h at. within i h (cleared S ws page i) at), rows-are-written S read ws page (levels S))
-
-  -- the decoder's own columns are those, so it is the same to count the misread columns on the one or the other
-  pub own-columns : TrueWithinReach → (i : ℕ) → i ≤ levels S → (cs : List (List ℕ)) → Reaches S outer read page i cs → cs ≡ cleared S ws page i
-  own-columns within i h cs at =
-      columns-same cs (cleared S ws page i) (at .0) (listed (writtenLevel S read ws page) i) (at .1) (writtenSteps S read ws page i) (sym (at .2) ∙ comes-to within i h)
-
-  pub own-columns-within-reach : TrueWithinReach → WithinReach P outer read ws page
-  own-columns-within-reach within i h cs at =
-      let e = own-columns within i (omega arith) cs at in
-      subst⁻¹ (λ (x : List (List ℕ)). 2 * total (misread S i ws (map (read i) x)) + total (unread (map (read i) x)) ≤ P .roots i) e
-      (within i h (subst (λ (x : List (List ℕ)). Reaches S outer read page i x) e at))

@@ -2,5 +2,4 @@ pub mod Pigeonhole
 pub mod Ring
 pub mod Powers
 pub mod Digits
-pub mod Table
 pub mod Short

@@ -23,9 +23,6 @@ module _ (m g : ℕ) where
       ∙ ap (remainder m g) (product-add-r (a % 2 ^ m) (b % 2 ^ m) (c % 2 ^ m))
       ∙ remainder-add m g (product (a % 2 ^ m) (b % 2 ^ m)) (product (a % 2 ^ m) (c % 2 ^ m))
 
-  pub mul-add-l : (b : ℕ) → Linear (λ a. mul m g a b)
-  mul-add-l b a c = mul-comm (add a c) b ∙ mul-add-r b a c ∙ ap₂ add (mul-comm b a) (mul-comm b c)
-
   pub mul-zero-r : (a : ℕ) → mul m g a 0 ≡ 0
   mul-zero-r a = linear-zero (mul m g a) (mul-add-r a)
 

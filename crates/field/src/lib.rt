@@ -1,9 +1,9 @@
 // The field of 64 elements: 01, "Field and column". An element is a number 0..63, bit k the coefficient of α^k; the sum is `^`.
 // The laws hold for the field of 2^m elements by any modulus that passes one test (specs/Element.antt, proofs/); the code is their instance m = 6, g = x^6 + x + 1.
 ghost use mathlib.Core.Path.{_≡_};
-ghost use Prim.Native.Nat.{_<_, _%_};
+ghost use Prim.Native.Nat.{_%_};
 ghost use Rattle.poly.specs.Polynomial.{scale};
-ghost use Rattle.field.specs.Element.{mul, power as powerOf, inverse as inverseOf, α};
+ghost use Rattle.field.specs.Element.{mul, inverse as inverseOf, α};
 
 // The product is written for whole blocks of symbols: no table, no branch in the machine code, no range asked of its operands, its six steps
 // written out. A loop over a block of bytes that calls it then runs sixteen bytes at a time. Let the operand that stays the same through the
@@ -39,81 +39,6 @@ pub fn product(a: u8, b: u8) -> u8
     let q4 = q3 / 2;
     let q5 = q4 / 2;
     pick(p0, b) ^ (pick(p1, q1) ^ (pick(p2, q2) ^ (pick(p3, q3) ^ (pick(p4, q4) ^ pick(p5, q5)))))
-}
-
-// 01: "The powers α^0 to α^62 stand in a constant table."
-const POWERS: [u8; 63] = [
-    1,
-    2,
-    4,
-    8,
-    16,
-    32,
-    3,
-    6,
-    12,
-    24,
-    48,
-    35,
-    5,
-    10,
-    20,
-    40,
-    19,
-    38,
-    15,
-    30,
-    60,
-    59,
-    53,
-    41,
-    17,
-    34,
-    7,
-    14,
-    28,
-    56,
-    51,
-    37,
-    9,
-    18,
-    36,
-    11,
-    22,
-    44,
-    27,
-    54,
-    47,
-    29,
-    58,
-    55,
-    45,
-    25,
-    50,
-    39,
-    13,
-    26,
-    52,
-    43,
-    21,
-    42,
-    23,
-    46,
-    31,
-    62,
-    63,
-    61,
-    57,
-    49,
-    33,
-];
-
-// α^k
-pub fn power(k: usize) -> u8
-    requires { ⌜ k < 63 ⌝ }
-    ensures { λ r. ⌜ r ≡ powerOf 6 67 α k ⌝ }
-{
-    POWERS[k]
 }
 
 // The inverse of an element that is not 0, as a^62; of 0 it is 0.

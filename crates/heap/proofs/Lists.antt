@@ -15,13 +15,6 @@ module _ {A : Type 0} (R : A → A → Type 0) (eq : (a b : A) → Dec (a ≡ b)
   abbrev is : A → A → ℕ
   is a b = one a b (eq a b)
 
-  is-same : (a b : A) → 0 < is a b → a ≡ b
-  is-same a b = go (eq a b)
-    where
-      go : (d : Dec (a ≡ b)) → 0 < one a b d → a ≡ b
-      go (yes e) h = e
-      go (no e) h = absurd (omega arith)
-
   is-self : (a : A) → is a a ≡ 1
   is-self a = go (eq a a)
     where

@@ -65,28 +65,6 @@ module _ (small large : Tree) (sound-small : Sound small) (sound-large : Sound l
   pub number-is-no-larger : (w : Path) → Full large w → number small w ≤ number large w
   number-is-no-larger w f = omega (arith, numbers-differ-by-the-dead-ahead w f)
 
-  -- both trees put the full paths in the same order
-  pub full-paths-keep-their-order : (w v : Path) → Full large w → Full large v → (number small w < number small v) ↔ (number large w < number large v)
-  full-paths-keep-their-order w v fw fv = (λ l. go l (path-dec w v), λ l. back l (path-dec w v))
-    where
-      sw : Full small w
-      sw = within .full-too w fw
-
-      sv : Full small v
-      sv = within .full-too v fv
-
-      go : number small w < number small v → Dec (w ≡ v) → number large w < number large v
-      go l (yes e) = absurd (omega (arith, ap (number small) e))
-      go l (no ne) =
-          ahead-exactly-if-smaller-number large sound-large w v fw fv ne .0
-          (sym (same-ahead w v) ∙ ahead-exactly-if-smaller-number small sound-small w v sw sv ne .1 l)
-
-      back : number large w < number large v → Dec (w ≡ v) → number small w < number small v
-      back l (yes e) = absurd (omega (arith, ap (number large) e))
-      back l (no ne) =
-          ahead-exactly-if-smaller-number small sound-small w v sw sv ne .0
-          (same-ahead w v ∙ ahead-exactly-if-smaller-number large sound-large w v fw fv ne .1 l)
-
   pub both-have-the-same-winner : (w : Path) → Winner small w ↔ Winner large w
   both-have-the-same-winner w = (
     λ win. record {
@@ -115,27 +93,3 @@ module _ (small large : Tree) (sound-small : Sound small) (sound-large : Sound l
       let w = h .0 in
       let win = both-have-the-same-winner w .0 (h .1) in
       winner-beyond-the-limit-spends-it large sound-large w win limit (omega (arith, spent-is-below-the-winner small sound-small c limit e .1 w (h .1), number-is-no-larger w (win .full)))
-
-  -- the next accepted full path after a full path is the same in both trees
-  pub both-have-the-same-next : (accept : Path → Bool) (u w : Path) → Full large u → Next large accept (number large u) w → Next small accept (number small u) w
-  both-have-the-same-next accept u w fu n =
-      record {
-        full = full-in-both w .1 (n .full);
-        accepted = n .accepted;
-        above = full-paths-keep-their-order u w fu (n .full) .1 (n .above);
-        smallest = λ v f a l. small-order v (full-in-both v .0 f) a (full-paths-keep-their-order u v fu (full-in-both v .0 f) .0 l) (decLe (number small w) (number small v));
-      }
-    where
-      small-order : (v : Path) → Full large v → accept v ≡ true → number large u < number large v → Dec (number small w ≤ number small v) → number small w ≤ number small v
-      small-order v f a l (yes h) = h
-      small-order v f a l (no h) = absurd (omega (arith, full-paths-keep-their-order v w f (n .full) .0 (omega arith), n .smallest v f a l))
-
-  -- a search that goes on from a full path u to a next one: where that of the larger tree answers, so does that of the smaller one, under the same limit on the count
-  pub larger-next-is-the-smaller-next : (accept : Path → Bool) (u w : Path) (c fuel-large fuel-small : ℕ) → Full large u → number large u + fuel-large ≤ number small u + fuel-small
-      → run large accept fuel-large (after large (number large u)) ≡ answer w c
-      → (run small accept fuel-small (after small (number small u)) ≡ answer w (number small w)) × (c ≡ number small w + dead-ahead small large w)
-  larger-next-is-the-smaller-next accept u w c fuel-large fuel-small fu l e =
-      let r = answer-is-the-next large sound-large accept fuel-large (number large u) w c e in (
-        run-finds-the-next small sound-small accept fuel-small (number small u) w (both-have-the-same-next accept u w fu (r .0)) (omega (arith, number-is-no-larger w (r .0 .full), r .2)),
-        r .1 ∙ numbers-differ-by-the-dead-ahead w (r .0 .full),
-      )

@@ -151,19 +151,6 @@ module _ (t : Tree) {A : Type 0} (N : Nodes A) (key : Path → A) (keys : KeysOf
     unfolding start
     start-keys = extend-keys [] [] (inl refl) some-size
 
-    -- from the state after k steps
-    pub run-on-keys-is-run-on-paths : (accept : A → Bool) (fuel k : ℕ)
-        → run-keys N accept fuel (count (after t k)) (map key (after t k .stack)) ≡ with-key key (run t (λ p. accept (key p)) fuel (after t k))
-    run-on-keys-is-run-on-paths accept fuel k = run-keys-from accept fuel (after t k .taken) (after t k .stack) (after-invariant t sound k)
-
-    pub stack-of-keys-is-stack-of-paths : (k : ℕ) → stack-after N k (extend N (key []) []) ≡ map key (after t k .stack)
-    unfolding after
-    stack-of-keys-is-stack-of-paths k = ap (stack-after N k) (sym start-keys) ∙ sym (stack-after-from k (start t .taken) (start t .stack) (start-invariant t sound))
-
-    pub stack-of-keys-is-in-order : (k : ℕ) → Sorted (N .before) (stack-after N k (extend N (key []) []))
-    stack-of-keys-is-in-order k =
-        subst⁻¹ (λ (l : List A). Sorted (N .before) l) (stack-of-keys-is-stack-of-paths k) (keys-sorted (after t k .stack) (after-invariant t sound k .sorted))
-
     -- from the start
     pub search-on-keys-is-search-on-paths : (accept : A → Bool) (limit : ℕ)
         → run-keys N accept limit 0 (extend N (key []) []) ≡ with-key key (run t (λ p. accept (key p)) limit (start t))

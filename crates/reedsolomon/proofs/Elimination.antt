@@ -121,10 +121,6 @@ module _ {F : Type 0} {In : F → Type 0} {_⊕_ _⊗_ : F → F → F} {𝟘 �
             ∙ mul-one (v i) (subst In (sym (f .carried i below)) (combination-in k p M i)))
             ∙ sum-self (v i)
 
-    -- no slot is used at first
-    pub slots-begin : (ps vs : ℕ → ℕ → F) (qs : ℕ → F) → ((i : ℕ) → i < n → qs i ≡ 𝟘) → Slots In _⊕_ _⊗_ 𝟘 𝟙 k n M ps vs qs 0
-    slots-begin ps vs qs h i l nz = absurd (nz (h i l))
-
     -- only the first k coefficients and n combinations of a kept row count, and its bound may rise
     pub kept-row-of-equals : (p v p′ v′ : ℕ → F) (q q′ : F) (i b c : ℕ) → i < n → b ≤ c → ((j : ℕ) → j < k → p′ j ≡ p j) → ((h : ℕ) → h < n → v′ h ≡ v h)
         → q′ ≡ q → Kept p v q i b → Kept p′ v′ q′ i c

@@ -25,17 +25,6 @@ fewer-marks-before U (suc n) j l e =
     (λ q. omega (arith, fewer-marks-before U n j (le-of-suc-le-suc q) e))
     (eq-or-lt-of-le l)
 
-pub listing-begins : (U : ℕ → Bool) (at : ℕ → ℕ) → Listed U 0 at
-listing-begins U at j l = absurd (not-suc-le-zero l)
-
--- Column n is written behind the marked ones before it, marked or not: if it is not, the next one is written over it.
-pub listing-goes-on : (U : ℕ → Bool) (n : ℕ) (at at′ : ℕ → ℕ) → Listed U n at → ((i : ℕ) → i < count U n → at′ i ≡ at i)
-    → at′ (count U n) ≡ n → Listed U (suc n) at′
-listing-goes-on U n at at′ f old new j l e =
-    ⊎-elim (λ q. ap (λ (t : ℕ). at′ (count U t)) (suc-inj q) ∙ new ∙ sym (suc-inj q))
-    (λ q. old (count U j) (fewer-marks-before U n j (le-of-suc-le-suc q) e) ∙ f j (le-of-suc-le-suc q) e)
-    (eq-or-lt-of-le l)
-
 -- every entry is a marked column
 pub listed-columns-are-marked : (U : ℕ → Bool) (n : ℕ) (at : ℕ → ℕ) → Listed U n at → (i : ℕ) → i < count U n
     → (at i < n) × (U (at i) ≡ true)
@@ -87,22 +76,3 @@ module _ {F : Type 0} {In : F → Type 0} {_⊕_ _⊗_ : F → F → F} {𝟘 �
       last before false q =
           ap (λ (t : ℕ). sum _⊕_ 𝟘 t (λ i. f (at i))) (count-of-unmarked U n q) ∙ before ∙ sym (K .sum-zero (sum _⊕_ 𝟘 n f))
           ∙ ap (λ (t : F). sum _⊕_ 𝟘 n f ⊕ t) (sym (z n (lt-suc-self n) q))
-
-  -- the product polynomial of the places in the list has every marked column's place for a root
-  pub product-over-list-has-marked-roots : (n : ℕ) (at : ℕ → ℕ) (X : ℕ → F) (e : ℕ) (s : ℕ → F) → Listed U n at
-      → ProductPolynomial In _⊕_ _⊗_ 𝟘 𝟙 (λ i. X (at i)) (λ i. true) (count U n) e s → (b : ℕ) → b + count U n ≡ e
-      → (j : ℕ) → j < n → U j ≡ true → value _⊕_ _⊗_ 𝟘 (suc (count U n)) (λ i. s (b + i)) (X j) ≡ 𝟘
-  product-over-list-has-marked-roots n at X e s h m b q j l uj =
-      let k : count (λ i. true) (count U n) ≡ count U n = count-of-all (count U n) in
-      subst (λ (t : ℕ). value _⊕_ _⊗_ 𝟘 (suc t) (λ i. s (b + i)) (X j) ≡ 𝟘) k
-      (subst (λ (t : ℕ). value _⊕_ _⊗_ 𝟘 (suc (count (λ i. true) (count U n))) (λ i. s (b + i)) (X t) ≡ 𝟘) (h j l uj)
-      (product-has-marked-roots K (λ i. X (at i)) (λ i. true) e (count U n) s m b (omega arith) (count U j)
-      (fewer-marks-before U n j l uj) refl))
-
-  -- and begins with 1
-  pub product-over-list-is-monic : (n : ℕ) (at : ℕ → ℕ) (X : ℕ → F) (e : ℕ) (s : ℕ → F)
-      → ProductPolynomial In _⊕_ _⊗_ 𝟘 𝟙 (λ i. X (at i)) (λ i. true) (count U n) e s
-      → (b : ℕ) → b + count U n ≡ e → s (b + 0) ≡ 𝟙
-  product-over-list-is-monic n at X e s m b q =
-      let k : count (λ i. true) (count U n) ≡ count U n = count-of-all (count U n) in
-      m .leading (b + 0) (omega arith)

@@ -87,11 +87,6 @@ module _ {F : Type 0} {In : F → Type 0} {_⊕_ _⊗_ : F → F → F} {𝟘 �
     product-with-marked-place n s s′ q room m w =
         rw (q, add-one (count E n)) (sifting-multiplies e (count E n) (λ x. timesDistances _⊕_ _⊗_ X E n x 𝟙) (X n) s s′ room m w)
 
-    pub product-with-unmarked-place : (n : ℕ) (s : ℕ → F) → E n ≡ false → ProductPolynomial In _⊕_ _⊗_ 𝟘 𝟙 X E n e s
-        → ProductPolynomial In _⊕_ _⊗_ 𝟘 𝟙 X E (suc n) e s
-    unfolding count indicator timesDistances timesDistanceIf
-    product-with-unmarked-place n s q m = rw (q, add-zero (count E n)) m
-
     -- each marked place is a root
     pub product-has-marked-roots : (n : ℕ) (s : ℕ → F) → ProductPolynomial In _⊕_ _⊗_ 𝟘 𝟙 X E n e s → (b : ℕ) → b + count E n ≡ e
         → (j : ℕ) → j < n → E j ≡ true → value-of (suc (count E n)) (λ i. s (b + i)) (X j) ≡ 𝟘

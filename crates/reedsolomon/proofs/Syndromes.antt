@@ -57,14 +57,3 @@ module _ {F : Type 0} {In : F → Type 0} {_⊕_ _⊗_ : F → F → F} {𝟘 �
   syndrome-of-difference T w c hw hc code i l =
       sym (sum-zero (syndrome-of w i)) ∙ ap (λ (t : F). syndrome-of w i ⊕ t) (sym (code i l)) ∙ sym (syndrome-of-sum w c i)
       ∙ syndrome-is-power-sum (λ j. w j ⊕ c j) i (λ j u. K .in-sum (w j) (c j) (hw j u) (hc j u))
-
-  -- The final check: the syndromes S of w, with those of the correction d added, are all 0 exactly if the corrected word is a codeword.
-  pub check-tells-codeword : (T : ℕ) (w d v S D : ℕ → F) → Elements In N d → ((j : ℕ) → j < N → v j ≡ w j ⊕ d j)
-      → ((i : ℕ) → i < T → S i ≡ syndrome-of w i) → ((i : ℕ) → i < T → D i ≡ sum _⊕_ 𝟘 N (λ j. d j ⊗ X j ^^ suc i))
-      → ((i : ℕ) → i < T → S i ⊕ D i ≡ 𝟘) ↔ Codeword _⊕_ _⊗_ 𝟘 𝟙 α N T v
-  check-tells-codeword T w d v S D hd hv hS hD = ((λ h i l. corrected i l ∙ h i l), (λ h i l. sym (corrected i l) ∙ h i l))
-    where
-      corrected : (i : ℕ) → i < T → syndrome-of v i ≡ S i ⊕ D i
-      corrected i l =
-          syndrome-of-equals v (λ j. w j ⊕ d j) i hv ∙ syndrome-of-sum w d i
-          ∙ ap₂ _⊕_ (sym (hS i l)) (syndrome-is-sum d i hd ∙ sym (hD i l))

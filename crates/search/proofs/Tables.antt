@@ -32,9 +32,6 @@ table-of vs = record { entry = entry }
     entry true (suc (suc (suc (suc (suc (suc (suc zero))))))) h = refl
     entry true (suc (suc (suc (suc (suc (suc (suc (suc q)))))))) h = absurd (omega arith)
 
-pub table-length : (vs : Values) → length (tableOf vs) ≡ 16
-table-length vs = refl
-
 pub table-near : (k : ℕ) → k < 16 → natAbs (getD (tableOf values) k (pos 0)) ≤ 60
 unfolding branch reading doubt
 table-near zero h = omega arith

@@ -10,7 +10,7 @@ ghost use Rattle.reedsolomon.specs.Words.{Elements};
 ghost use Rattle.reedsolomon.specs.Row.{symbol, Symbols};
 ghost use Rattle.reedsolomon.specs.Steps.{Element, Entries, Written, Padded, place, placeSum, Summed, HasSyndromes};
 
-// The places of the 63 columns, α^62 to α^0, and 0, so that there are four blocks of 16.
+// 01: "The powers α^0 to α^62 stand in a constant table": as the places of the 63 columns, α^62 first, and then 0, so that there are four blocks of 16.
 const PLACES: [u8; 64] = [
     33,
     49,

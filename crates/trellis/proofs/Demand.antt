@@ -43,12 +43,6 @@ unfolding filter
 filter-none test [] none = refl
 filter-none test (p ∷ l) none = ap (λ (b : Bool). cond b (p ∷ filter test l) (filter test l)) (none p) ∙ filter-none test l none
 
--- every codeword is one as a path
-pub codeword-has-a-path : (S : Shape) (i x : ℕ) → Word (S .bits) (levelCode S i) x → (w : Path) × Codeword S i w × (number w ≡ x)
-codeword-has-a-path S i x h =
-    let r = number-has-a-path (S .bits) x (h .0) in
-    (r .0, record { long = r .1; word = subst (Word (S .bits) (levelCode S i)) (sym (r .2)) h }, r .2)
-
 module _ (S : Shape) (i : ℕ) (given : Searchable S i) (vs : Values) (soft : List ℕ) where
   -- ---- either trellis
 

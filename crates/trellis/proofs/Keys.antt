@@ -139,10 +139,3 @@ module _ (vs : Values) (soft left right : List ℕ) (t : Tree) (sound : Sound t)
       bits-of : (o : Outcome Path) → by-bits (with-key (keyOf vs soft) o) ≡ with-key number o
       bits-of (answer w c) = refl
       bits-of (spent c) = refl
-
--- after k steps the stack of keys holds at most k + 2
-pub key-stack-holds-at-most-k-plus-two : (n : ℕ) (vs : Values) (soft left right : List ℕ) (k : ℕ)
-    → length (stack-after (keyNodes n vs soft left right) k (extend (keyNodes n vs soft left right) (key (pos 0) 0 0) [])) ≤ k + 2
-key-stack-holds-at-most-k-plus-two n vs soft left right k =
-    let N = keyNodes n vs soft left right in
-    omega (arith, stack-after-length N k (extend N (key (pos 0) 0 0) []), extend-length N (key (pos 0) 0 0) [])
