@@ -1,15 +1,15 @@
 -- The remainder as the code works it out: from the highest digit down, g shifted under each digit that is set. Assumes nothing.
-use mathlib.Core.Path.{_≡_, refl, sym, ap, ap₂, _∙_, subst}
+use mathlib.Core.Path.{_≡_, sym, ap, ap₂, _∙_, subst}
 use Prim.Native.Nat.{ℕ, zero, suc, _+_, _-_, _*_, _/_, _%_, _^_, _≤_, _<_}
 use native.Mathlib.Nat
 use native.Mathlib.Nat.{not-suc-le-zero, mod-eq-of-lt, mod-lt}
 use native.Mathlib.Omega.{arith}
 use lib.Bits.{bitXor}
-use lib.Pow.{pow-pos, pow-add, pow-mono, shl-shr, shr-shr, split}
-use Rattle.poly.specs.Polynomial.{add, scale, product, reduced, remainder, Degree}
+use lib.Pow.{pow-pos, pow-mono, shl-shr, shr-shr, split}
+use Rattle.poly.specs.Polynomial.{add, scale, reduced, remainder, Degree}
 use Rattle.poly.proofs.Sum.{add-zero-r}
 use Rattle.poly.proofs.Product.{product-comm, product-pow}
-use Rattle.poly.proofs.Remainder.{remainder-add, remainder-zero, remainder-small, reduced-lt, multiple-has-no-remainder}
+use Rattle.poly.proofs.Remainder.{remainder-add, remainder-small, reduced-lt, multiple-has-no-remainder}
 
 module _ (d g : ℕ) (deg : Degree d g) where
   -- g has no digit above d

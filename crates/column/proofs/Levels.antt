@@ -8,11 +8,11 @@ use native.Mathlib.Nat.{mod-lt, div-eq-of-lt, mul-suc, mul-le-mul-left}
 use native.Mathlib.Omega.{arith}
 use lib.Dec.{T, eqb, eqb→eq}
 use lib.Pow.{pow-pos, pow-mono, pow-add, split}
-use Rattle.poly.specs.Polynomial.{add, product, remainder, Multiple, Degree}
-use Rattle.poly.proofs.Sum.{add-assoc, add-comm, add-self, add-again, add-cancel, add-zero-l, add-zero-r, add-swap, add-shr, add-lt, add-high}
+use Rattle.poly.specs.Polynomial.{add, remainder, Multiple}
+use Rattle.poly.proofs.Sum.{add-assoc, add-comm, add-self, add-again, add-zero-l, add-zero-r, add-swap, add-shr, add-lt, add-high}
 use Rattle.poly.proofs.Remainder.{remainder-add, remainder-lt, remainder-small, multiple-has-no-remainder, no-remainder-is-multiple}
 use Rattle.poly.proofs.Coprime.{multiple-of-left, multiple-sum}
-use Rattle.column.specs.Shape.{Code, Word, Shape, levels, generator, degree, levelCode, Sound}
+use Rattle.column.specs.Shape.{Word, Shape, levels, generator, degree, levelCode, Sound}
 use Rattle.column.specs.Level.{levelWord, highest, takenOff, reimaged, isWord}
 
 pub T→true : (b : Bool) → T b → b ≡ true

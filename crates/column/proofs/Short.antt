@@ -1,13 +1,13 @@
 -- The short page's family: its numbers are sound, and its supercodes split its codes. Assumes nothing.
 use mathlib.Core.Path.{_≡_, refl, sym, ap₂, _∙_, subst}
-use mathlib.Core.List.{List, [], _∷_}
+use mathlib.Core.List.{[], _∷_}
 use Prim.Native.Nat.{ℕ, zero, suc, _+_, _*_, _^_, _≤_, _<_}
 use native.Mathlib.Omega.{arith}
 use lib.Dec.{lit≤}
 use lib.Bits.{bitXor}
 use lib.ListN.{getD}
 use Rattle.poly.specs.Polynomial.{add, scale, productIn, product, remainder, Degree}
-use Rattle.column.specs.Shape.{Shape, levels, generator, degree, short, Sound}
+use Rattle.column.specs.Shape.{generator, degree, short, Sound}
 use Rattle.column.specs.Level.{levelWord, highest, columnOf, takenOff}
 use Rattle.column.specs.Trellis.{Dead}
 use Rattle.column.proofs.Supercodes.{Split, no-dead}

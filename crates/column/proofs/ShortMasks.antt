@@ -4,10 +4,9 @@ use mathlib.Core.List.{List, [], _∷_}
 use Prim.Native.Nat.{ℕ, zero, suc, _≤_, _<_}
 use native.Mathlib.Omega.{arith}
 use lib.Dec.{T, lit<}
-use lib.ListN.{getD}
 use Rattle.poly.specs.Polynomial.{add, scale, productIn, product, reduced, remainderIn, remainder}
 use Rattle.column.specs.Shape.{generator, degree, levelCode, short}
-use Rattle.column.specs.Mask.{maskOf, MasksOf}
+use Rattle.column.specs.Mask.{MasksOf}
 use Rattle.column.proofs.MaskTable.{residues, maskBy, masksBy, maskTable, mask-at}
 
 -- f1

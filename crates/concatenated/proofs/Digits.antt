@@ -8,7 +8,7 @@ use native.Mathlib.Omega.{arith}
 use lib.Arith.{digits-lt, digits-div, mod-mul}
 use lib.ListN.{length, length-append, length-drop, take, drop, take-append-drop}
 use lib.Seq.{length-take-le, take-at, drop-at}
-use Rattle.packing.specs.Packing.{joined, digit, symbolsOf, bytesOf, columnBytes}
+use Rattle.packing.specs.Packing.{joined, digit, symbolsOf, bytesOf}
 use Rattle.concatenated.specs.Lists.{All}
 use Rattle.concatenated.specs.Data.{digits, repacked}
 use Rattle.concatenated.proofs.Lists.{all-append, all-of-append}

@@ -4,20 +4,19 @@ use mathlib.Core.List.{List, [], _∷_, map, flatMap}
 use Prim.Native.Nat.{ℕ, zero, suc, _+_, _-_, _*_, _^_, _≤_, _<_}
 use native.Mathlib.Nat
 use native.Mathlib.Omega.{arith}
-use lib.Dec.{lit<}
 use lib.ListN.{length, length-map, length-append, getD, take, List·getD-map}
 use lib.Seq.{length-take-le, getD-take, ext-getD}
 use Rattle.poly.specs.Polynomial.{add}
-use Rattle.column.specs.Shape.{Shape, Word, levels, levelCode}
+use Rattle.column.specs.Shape.{Shape, levels}
 use Rattle.column.specs.Level.{levelWord, highest, columnOf, reimaged}
-use Rattle.column.proofs.Levels.{sum-is-word, reimage-of-sum}
+use Rattle.column.proofs.Levels.{reimage-of-sum}
 use Rattle.concatenated.specs.Lists.{All, listed}
 use Rattle.concatenated.specs.Format.{Format, SoundFormat, symbolValues, dataLength, dataCount}
 use Rattle.concatenated.specs.Data.{dataSymbols}
 use Rattle.concatenated.specs.Outer.{RowDecoder, RowEncoder, OuterLaws}
 use Rattle.concatenated.specs.Written.{rowData, writtenRow, writtenRows, columnSymbols, columnsOf, rowAt, writtenSum, columnInBytes, pageInBytes, bytesOfRows}
 use Rattle.concatenated.proofs.Lists.{listed-length, listed-at, all-listed, map-listed, listed-same, all-append}
-use Rattle.concatenated.proofs.Digits.{Below, digits-length, digits-below}
+use Rattle.concatenated.proofs.Digits.{Below, digits-length}
 use Rattle.concatenated.proofs.RowData.{row-data-length, row-data-in-range, data-symbols-fill-the-rows, data-symbols-in-range, bytes-of-rows-with-data}
 
 -- ---- rows and columns of a list of rows

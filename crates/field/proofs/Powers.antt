@@ -1,5 +1,5 @@
 -- Where the modulus passes its test, the powers of α run through all elements but 0, so that each of these has an inverse. Assumes nothing.
-use mathlib.Core.Path.{_≡_, refl, sym, ap, ap₂, _∙_, subst}
+use mathlib.Core.Path.{_≡_, refl, sym, ap, _∙_, subst}
 use mathlib.Core.Logic.{_⊎_, inl, inr, ⊎-elim}
 use mathlib.Core.Bool.{Bool, true, false}
 use Prim.Native.Nat.{ℕ, zero, suc, _+_, _-_, _*_, _/_, _%_, _^_, _≤_, _<_}
@@ -7,7 +7,7 @@ use native.Mathlib.Nat
 use native.Mathlib.Nat.{not-suc-le-zero, le-of-suc-le-suc}
 use native.Mathlib.Omega.{arith}
 use lib.Dec.{T, eqb, eqb→eq, eqb-refl}
-use lib.Pow.{pow-pos, pow-lt, pow-mono}
+use lib.Pow.{pow-pos}
 use Rattle.poly.specs.Polynomial.{add, Degree}
 use Rattle.poly.proofs.Sum.{add-assoc, add-comm, add-zero-r, add-self, add-lt}
 use Rattle.field.specs.Element.{mul, power, inverse, α, next, firstOne, Primitive}

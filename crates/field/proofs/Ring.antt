@@ -1,13 +1,13 @@
 -- Sum and product make a commutative ring, for every modulus of degree m. Assumes nothing.
-use mathlib.Core.Path.{_≡_, refl, sym, ap, ap₂, _∙_, subst}
+use mathlib.Core.Path.{_≡_, refl, sym, ap, ap₂, _∙_}
 use Prim.Native.Nat.{ℕ, zero, suc, _+_, _-_, _*_, _/_, _%_, _^_, _≤_, _<_}
 use native.Mathlib.Nat
 use native.Mathlib.Nat.{mod-lt, mod-eq-of-lt, mod-mod}
 use native.Mathlib.Omega.{arith}
 use lib.Pow.{pow-pos, pow-lt}
-use Rattle.poly.specs.Polynomial.{add, scale, product, reduced, remainder, Degree}
-use Rattle.poly.proofs.Sum.{Linear, linear-zero, add-mod, add-lt}
-use Rattle.poly.proofs.Product.{product-comm, product-assoc, product-one-r, product-add-l, product-add-r, product-digit-r, product-double-r}
+use Rattle.poly.specs.Polynomial.{scale, product, reduced, remainder, Degree}
+use Rattle.poly.proofs.Sum.{Linear, linear-zero, add-mod}
+use Rattle.poly.proofs.Product.{product-comm, product-assoc, product-one-r, product-add-r, product-double-r}
 use Rattle.poly.proofs.Remainder.{remainder-add, remainder-lt, remainder-small, remainder-factor, remainder-double}
 use Rattle.field.specs.Element.{mul, power, next}
 

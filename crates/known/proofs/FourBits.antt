@@ -5,7 +5,7 @@ use mathlib.Core.Path.{_≡_, refl}
 use lib.Count.{ones}
 use Rattle.column.specs.Mask.{parity}
 use Rattle.paths.specs.Lists.{filter}
-use Rattle.paths.specs.Paths.{Path, same, prefix, shared, paths, extensions}
+use Rattle.paths.specs.Paths.{same, prefix, shared, paths, extensions}
 use Rattle.paths.specs.Order.{ahead, last-placed, later}
 use Rattle.paths.specs.Dead.{dead-and-ahead}
 use Rattle.trellis.specs.Values.{branch, reading, doubt}

@@ -4,22 +4,19 @@ use mathlib.Core.Logic.{_↔_}
 use mathlib.Core.Path.{_≡_, refl, sym, ap, _∙_}
 use Prim.Native.Nat.{ℕ, _+_, _≤_, _<_}
 use native.Mathlib.Omega.{arith}
-use native.Mathlib.Decide.{decLe}
 use lib.ListN.{length}
 use Rattle.paths.specs.Lists.{Mem, filter}
 use Rattle.paths.specs.Paths.{Path, prefix, paths}
 use Rattle.paths.specs.Order.{ahead}
-use Rattle.paths.specs.Tree.{Tree, Full, Sound, counted, number, Winner, Next}
-use Rattle.paths.specs.Search.{answer, spent, after, run, limited-search}
+use Rattle.paths.specs.Tree.{Tree, Full, Sound, counted, number, Winner}
+use Rattle.paths.specs.Search.{answer, spent, limited-search}
 use Rattle.paths.specs.Dead.{Within, dead-and-ahead, dead-ahead}
 use Rattle.paths.proofs.Booleans.{not-both}
 use Rattle.paths.proofs.Lists.{filter-sum}
-use Rattle.paths.proofs.Prefixes.{path-dec, prefix-is}
+use Rattle.paths.proofs.Prefixes.{prefix-is}
 use Rattle.paths.proofs.Paths.{of-paths}
 use Rattle.paths.proofs.Invariant.{prefix-exists}
-use Rattle.paths.proofs.Words.{ahead-exactly-if-smaller-number}
 use Rattle.paths.proofs.Winner.{there-is-a-winner}
-use Rattle.paths.proofs.Run.{run-finds-the-next, answer-is-the-next}
 use Rattle.paths.proofs.Limit.{winner-within-the-limit-is-the-answer, winner-beyond-the-limit-spends-it, answer-is-the-winner, spent-is-below-the-winner}
 
 -- a and b: exists in the smaller, in the larger tree; c: is a prefix; d: is ahead

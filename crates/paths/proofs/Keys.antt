@@ -13,11 +13,11 @@ use Rattle.paths.specs.Lists.{Mem}
 use Rattle.paths.specs.Paths.{Path}
 use Rattle.paths.specs.Stack.{Nodes, Sorted, insert, push, extend, grow}
 use Rattle.paths.specs.Tree.{Tree, is-full, nodes, Exists, Sound}
-use Rattle.paths.specs.Search.{count, answer, spent, start, take-head, step, steps, after, run}
+use Rattle.paths.specs.Search.{answer, spent, start, take-head, step, steps, run}
 use Rattle.paths.specs.Keys.{run-keys, stack-after, KeysOf, with-key}
 use Rattle.paths.proofs.Booleans.{is-false}
 use Rattle.paths.proofs.Stack.{grow-length}
-use Rattle.paths.proofs.Invariant.{Invariant, step-invariant, start-invariant, after-invariant}
+use Rattle.paths.proofs.Invariant.{Invariant, step-invariant, start-invariant}
 use Rattle.paths.proofs.Run.{answer-is-not-spent}
 
 -- ---- on keys alone

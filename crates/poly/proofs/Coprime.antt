@@ -1,8 +1,8 @@
 -- Multiples of two polynomials without a common factor are the multiples of their product. Assumes nothing.
-use mathlib.Core.Path.{_≡_, refl, sym, ap, ap₂, _∙_}
+use mathlib.Core.Path.{_≡_, sym, ap, ap₂, _∙_}
 use Prim.Native.Nat.{ℕ}
 use Rattle.poly.specs.Polynomial.{add, product, Multiple}
-use Rattle.poly.proofs.Product.{product-comm, product-assoc, product-one-r, product-right-comm, product-add-l, product-add-r}
+use Rattle.poly.proofs.Product.{product-comm, product-assoc, product-one-r, product-add-l, product-add-r}
 
 -- a Bezout certificate: u · a + v · b is 1
 abbrev pub Bezout : ℕ → ℕ → ℕ → ℕ → Type 0

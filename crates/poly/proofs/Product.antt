@@ -7,7 +7,7 @@ use native.Mathlib.Decide.{le-ind}
 use native.Mathlib.Omega.{arith}
 use lib.Arith.{bin-ind, half-le}
 use Rattle.poly.specs.Polynomial.{add, scale, productIn, product}
-use Rattle.poly.proofs.Sum.{Linear, linear-zero, add-zero-l, add-zero-r, add-swap, add-half, add-double, add-digit, add-lt, scale-add, scale-odd, scale-zero, scale-double, scale-lt}
+use Rattle.poly.proofs.Sum.{Linear, linear-zero, add-zero-l, add-zero-r, add-swap, add-half, add-double, add-digit, add-lt, scale-add, scale-odd, scale-double, scale-lt}
 
 -- more room for digits changes nothing
 product-more : (n a b : ℕ) → b ≤ n → productIn (suc n) a b ≡ productIn n a b

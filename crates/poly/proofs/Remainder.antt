@@ -2,14 +2,14 @@
 use mathlib.Core.Path.{_≡_, refl, sym, ap, ap₂, _∙_, subst}
 use Prim.Native.Nat.{ℕ, zero, suc, _+_, _-_, _*_, _/_, _%_, _^_, _≤_, _<_}
 use native.Mathlib.Nat
-use native.Mathlib.Nat.{le-refl, not-suc-le-zero, mod-lt, zero-lt-suc, pow-suc, div-eq-of-lt, mod-eq-of-lt}
+use native.Mathlib.Nat.{le-refl, not-suc-le-zero, mod-lt, zero-lt-suc, pow-suc, div-eq-of-lt}
 use native.Mathlib.Decide.{le-ind}
 use native.Mathlib.Omega.{arith}
 use lib.Arith.{bin-ind, half-le}
 use lib.Pow.{pow-pos, split}
 use Rattle.poly.specs.Polynomial.{add, scale, product, reduced, remainderIn, remainder, Multiple, Degree}
-use Rattle.poly.proofs.Sum.{Linear, linear-zero, add-assoc, add-comm, add-self, add-again, add-cancel, add-zero-l, add-zero-r, add-swap, add-half, add-odd, add-shr, add-double, add-digit, add-high, add-lt, scale-odd}
-use Rattle.poly.proofs.Product.{half, even, product-step, product-comm, product-assoc, product-zero-r, product-add-l, product-double-l, product-digit-r, product-right-comm}
+use Rattle.poly.proofs.Sum.{Linear, linear-zero, add-assoc, add-self, add-zero-l, add-zero-r, add-swap, add-half, add-odd, add-shr, add-double, add-digit, add-high, scale-odd}
+use Rattle.poly.proofs.Product.{half, even, product-step, product-comm, product-zero-r, product-add-l, product-double-l, product-digit-r, product-right-comm}
 
 -- a number without a digit at d or above
 pub small-of-div : (d w : ℕ) → w / 2 ^ d ≡ 0 → w < 2 ^ d

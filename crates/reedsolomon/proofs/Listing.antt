@@ -6,12 +6,10 @@ use Prim.Native.Nat.{ℕ, zero, suc, _+_, _≤_, _<_}
 use native.Mathlib.Nat.{not-suc-le-zero, eq-or-lt-of-le, lt-suc-self, le-trans, le-suc, le-of-suc-le-suc, suc-inj}
 use native.Mathlib.Omega.{arith}
 use Rattle.field.specs.Laws.{Field}
-use Rattle.reedsolomon.specs.Sums.{sum, value}
+use Rattle.reedsolomon.specs.Sums.{sum}
 use Rattle.reedsolomon.specs.Words.{indicator, count}
 use Rattle.reedsolomon.specs.Listing.{Listed}
-use Rattle.reedsolomon.specs.Product.{ProductPolynomial}
-use Rattle.reedsolomon.proofs.Counting.{count-of-all, count-of-marked, count-of-unmarked}
-use Rattle.reedsolomon.proofs.Product.{product-has-marked-roots}
+use Rattle.reedsolomon.proofs.Counting.{count-of-marked, count-of-unmarked}
 
 pub fewer-marks-before : (U : ℕ → Bool) (n j : ℕ) → j < n → U j ≡ true → count U j < count U n
 unfolding count indicator

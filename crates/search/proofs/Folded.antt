@@ -1,9 +1,9 @@
 -- The parity of 64 bits is that of the sum of their halves. Assumes nothing.
-use mathlib.Core.Path.{_≡_, refl, sym, ap, ap₂, _∙_, subst}
+use mathlib.Core.Path.{_≡_, sym, ap, ap₂, _∙_}
 use Prim.Native.Nat.{ℕ, _+_, _-_, _*_, _/_, _%_, _^_, _<_}
 use native.Mathlib.Nat
 use native.Mathlib.Nat.{mod-lt, mod-eq-of-lt}
-use lib.Bits.{bitXor, bitAnd, and-mask}
+use lib.Bits.{bitXor, and-mask}
 use lib.Count.{ones, ones-cat}
 use lib.Pow.{pow-pos, split}
 use Rattle.poly.specs.Polynomial.{add}

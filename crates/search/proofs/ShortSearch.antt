@@ -1,11 +1,11 @@
 -- The short page's search by lent masks is 01's search. Assumes nothing.
 use mathlib.Core.List.{List}
-use mathlib.Core.Logic.{_⊎_, inl, inr}
+use mathlib.Core.Logic.{_⊎_, inl}
 use mathlib.Core.Path.{_≡_, refl, sym, ap, _∙_, subst}
 use Prim.Native.Nat.{ℕ, suc, _≤_, _<_, _%_}
 use lib.Dec.{lit<, lit≤}
 use lib.IntN.{ℤ}
-use lib.ListN.{length, getD}
+use lib.ListN.{getD}
 use Rattle.column.specs.Shape.{Code, short, levelCode}
 use Rattle.column.specs.Mask.{maskOf, MasksOf}
 use Rattle.column.proofs.Checks.{mask-odd-or-zero}

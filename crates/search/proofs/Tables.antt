@@ -4,7 +4,7 @@ use mathlib.Core.Path.{_≡_, refl}
 use Prim.Native.Nat.{ℕ, zero, suc, _+_, _*_, _≤_, _<_}
 use native.Mathlib.Omega.{arith}
 use lib.IntN.{pos, natAbs}
-use lib.ListN.{length, getD}
+use lib.ListN.{getD}
 use Rattle.trellis.specs.Values.{Values, values, reading, doubt, branch}
 use Rattle.trellis.specs.Order.{bit}
 use Rattle.search.specs.Steps.{TableOf, tableOf}

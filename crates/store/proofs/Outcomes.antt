@@ -1,10 +1,9 @@
 -- A search's outcome as its answer. Assumes nothing.
 use mathlib.Core.List.{List}
-use mathlib.Core.Path.{_≡_, refl, sym, subst}
+use mathlib.Core.Path.{_≡_, refl}
 use Prim.Native.Nat.{ℕ, _≤_, _<_}
 use native.Mathlib.Omega.{arith}
 use lib.ListN.{length, getD}
-use Rattle.column.specs.Shape.{short, levelCode}
 use Rattle.paths.specs.Search.{Outcome, answer, spent}
 use Rattle.trellis.specs.Demand.{Search}
 use Rattle.search.specs.Outcomes.{codeOutcome, Searchable30, MasksFor}

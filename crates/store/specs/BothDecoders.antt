@@ -1,5 +1,4 @@
 -- Demand 3 for pages, of the two calls: what `decode_page` and `decode_page_whole` have in common. Assumes nothing.
-use mathlib.Core.List.{List}
 use mathlib.Core.Path.{_≡_}
 use Prim.Native.Nat.{ℕ, _+_}
 use Rattle.page.specs.declared.pages.PageOutcome.{PageOutcome}

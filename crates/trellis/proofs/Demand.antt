@@ -2,17 +2,17 @@
 use mathlib.Core.Bool.{Bool, true, false, cond, not, _&&_, _||_}
 use mathlib.Core.List.{List, [], _∷_}
 use mathlib.Core.Logic.{_↔_, _⊎_, inl, inr, ⊎-elim}
-use mathlib.Core.Path.{_≡_, refl, sym, ap, _∙_, subst}
+use mathlib.Core.Path.{_≡_, refl, sym, ap, _∙_}
 use Prim.Native.Nat.{ℕ, _+_, _≤_, _<_}
 use native.Mathlib.Decide.{decLe}
 use native.Mathlib.Omega.{arith}
 use lib.ListN.{length}
 use Rattle.column.specs.Shape.{Shape, Sound as ShapeSound, Word, levels, generator, levelCode}
-use Rattle.column.specs.Trellis.{ExistsWhole, ExistsSupercode, Dead}
+use Rattle.column.specs.Trellis.{Dead}
 use Rattle.column.proofs.Supercodes.{Split, no-dead}
 use Rattle.paths.specs.Paths.{Path, prefix, paths}
 use Rattle.paths.specs.Order.{ahead, Ahead}
-use Rattle.paths.specs.Tree.{Tree, Full, Sound, Winner, counted, number as rank}
+use Rattle.paths.specs.Tree.{Full, Sound, Winner, counted, number as rank}
 use Rattle.paths.specs.Search.{answer, spent, after}
 use Rattle.paths.specs.Keys.{with-key}
 use Rattle.paths.specs.Dead.{dead-and-ahead, dead-ahead}
@@ -27,7 +27,6 @@ use Rattle.trellis.specs.Values.{Values}
 use Rattle.trellis.specs.Order.{number, before}
 use Rattle.trellis.specs.Trellis.{wholeTrellis, supercodeTrellis, searched}
 use Rattle.trellis.specs.Demand.{Search, whole, supercode, trellis, ExistsFor, Codeword, AheadOfAll}
-use Rattle.trellis.proofs.Order.{number-has-a-path}
 use Rattle.trellis.proofs.Existence.{whole-exists-exactly, supercode-exists-exactly}
 use Rattle.trellis.proofs.Sound.{whole-sound, supercode-sound, whole-within-supercode, full-is-codeword-in-whole, full-is-codeword-in-supercode}
 

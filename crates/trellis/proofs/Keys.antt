@@ -8,7 +8,6 @@ use native.Mathlib.Omega.{arith}
 use lib.Bits.{and-zero-r}
 use lib.Count.{ones}
 use lib.Dec.{eqb}
-use lib.IntN.{pos}
 use lib.ListN.{length, getD}
 use borrow.Author.Tests.{eqb-true, eq-eqb}
 use Rattle.poly.specs.Polynomial.{Degree}
@@ -19,16 +18,14 @@ use Rattle.column.proofs.Begins.{zero-exists}
 use Rattle.column.proofs.Checks.{extension-exists}
 use Rattle.column.proofs.Supercodes.{Split}
 use Rattle.paths.specs.Paths.{Path}
-use Rattle.paths.specs.Stack.{extend}
 use Rattle.paths.specs.Tree.{Tree, Sound, is-full, Exists as InTree}
 use Rattle.paths.specs.Search.{Outcome, answer, spent, limited-search}
-use Rattle.paths.specs.Keys.{KeysOf, with-key, stack-after}
+use Rattle.paths.specs.Keys.{KeysOf, with-key}
 use Rattle.paths.proofs.Booleans.{and-both}
-use Rattle.paths.proofs.Keys.{search-on-keys-is-search-on-paths, stack-after-length}
-use Rattle.paths.proofs.Stack.{extend-length}
+use Rattle.paths.proofs.Keys.{search-on-keys-is-search-on-paths}
 use Rattle.trellis.specs.Values.{Values}
 use Rattle.trellis.specs.Order.{bit, number, sum, before}
-use Rattle.trellis.specs.Keys.{Key, key, keyOf, keyExtension, keyPasses, keyNodes, keySearch}
+use Rattle.trellis.specs.Keys.{Key, keyOf, keyExtension, keyPasses, keyNodes, keySearch}
 use Rattle.trellis.specs.Trellis.{existsIn, wholeTrellis, supercodeTrellis, searched}
 use Rattle.trellis.proofs.Order.{before-keys, bit-below}
 use Rattle.trellis.proofs.Existence.{exists-exactly}
