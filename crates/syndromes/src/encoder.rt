@@ -1,5 +1,5 @@
 // Division of the data by the generator.
-ghost use Prim.Native.Nat.{ℕ, suc, _≤_, _<_};
+ghost use Prim.Native.Nat.{ℕ, suc, _<_};
 ghost use lib.ListN.{length};
 ghost use Rattle.poly.specs.Polynomial.{add};
 ghost use Rattle.field.specs.Element.{mul};
@@ -168,21 +168,13 @@ fn generator(t: usize) -> [u8; 33]
     ROOTS_4
 }
 
-// How many symbols of a remainder are worked on: t of them may be other than 0, and sixteen are worked on at once.
-fn lanes(t: usize) -> usize
-    requires { ⌜ t ≤ 32 ⌝ }
-    ensures { λ r. ⌜ (t ≤ r) × (r ≤ 32) ⌝ }
-{
-    if t <= 16 { 16 } else { 32 }
-}
-
-// One data symbol u more goes into the first n symbols of the remainder r by the generator g.
-fn turn(r: &mut [u8], g: &[u8], n: usize, u: u8)
-    requires { ⌜ (n < length (now r)) × (n < length (now g)) ⌝ }
-    ensures { λ x. ⌜ Written n (λ (i : ℕ). add (symbol (now (r .entry)) (suc i)) (mul 6 67 (add u (symbol (now (r .entry)) 0)) (symbol (now (g .entry)) (suc i)))) (now (r .entry)) (now (r .exit)) ⌝ }
+// One data symbol u more goes into the remainder r by the generator g.
+fn turn(r: &mut [u8], g: &[u8], u: u8)
+    requires { ⌜ (32 < length (now r)) × (32 < length (now g)) ⌝ }
+    ensures { λ x. ⌜ Written 32 (λ (i : ℕ). add (symbol (now (r .entry)) (suc i)) (mul 6 67 (add u (symbol (now (r .entry)) 0)) (symbol (now (g .entry)) (suc i)))) (now (r .entry)) (now (r .exit)) ⌝ }
 {
     let f = u ^ r[0];
-    for i in 0..n {
+    for i in 0..32 {
         r[i] = r[i + 1] ^ field::product(f, g[i + 1]);
     }
 }
@@ -193,11 +185,10 @@ pub fn remainder(data: &[u8], t: usize) -> [u8; 33]
     ensures { λ r. ⌜ IsRemainder 6 67 t (now («data» .entry)) (length (now («data» .entry))) r ⌝ }
 {
     let g = generator(t);
-    let n = lanes(t);
     let mut r = [0u8; 33];
     let mut k = 0;
     while k < data.len() {
-        turn(&mut r, &g, n, data[k]);
+        turn(&mut r, &g, data[k]);
         k += 1;
     }
     r

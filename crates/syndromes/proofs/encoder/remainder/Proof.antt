@@ -14,20 +14,17 @@ use Rattle.syndromes.proofs.encoder.remainder.Statement.{statement}
 use Rattle.syndromes.proofs.encoder.remainder.Tie as tie
 
 abbrev Inv-loop : tie.InvT-loop
-Inv-loop «data» t g n r₀ k₀ r k =
+Inv-loop «data» t g r₀ k₀ r k =
     (k ≤ length «data») × (length r ≡ 33) × Divided add (mul 6 67) 0 1 (λ a. a < 2 ^ 6) t (symbol g) (symbol «data») k (symbol r)
 
 abbrev μ-loop : tie.MeasureT-loop
-μ-loop «data» t g n r₀ k₀ r k = length «data» - k
+μ-loop «data» t g r₀ k₀ r k = length «data» - k
 
 generator-requires : tie.Need-generator-requires Inv-loop μ-loop
 generator-requires c κs = search needs
 
-lanes-requires : tie.Need-lanes-requires Inv-loop μ-loop
-lanes-requires c κs = omega (arith, row-roots-bounded _ (c .before .before .pre .0))
-
 loop-holds : tie.Need-loop-holds Inv-loop μ-loop
-loop-holds c = (search needs, search needs, no-data 6 67 field64 _ _ (c .before .generator .ensures) (c .before .before .before .args .«data» .now) 33)
+loop-holds c = (search needs, search needs, no-data 6 67 field64 _ _ (c .generator .ensures) (c .before .before .args .«data» .now) 33)
 
 slice-aggregate-turn : tie.Need-slice-aggregate-turn Inv-loop μ-loop
 slice-aggregate-turn c = search needs
@@ -49,20 +46,19 @@ loop-less c = search needs
 
 loop-again : tie.Need-loop-again Inv-loop μ-loop
 loop-again c =
-    let s = c .before .before .before .before .before .before .before .before .before .before in
+    let s = c .before .before .before .before .before .before .before .before .before in
     let l = c .before .before .before .before .before .before .loop in
-    let n = c .before .before .before .before .before .before .before .lanes in
-    let g = c .before .before .before .before .before .before .before .before .generator in (
+    let g = c .before .before .before .before .before .before .before .generator in (
       omega arith,
       c .before .turn .kept .0 ∙ l .inv .1,
-      one-symbol-more 6 67 field64 _ (g .result) (g .ensures) (n .result) (n .ensures .0) (s .args .«data» .now) (l .r) _ (l .k)
+      one-symbol-more 6 67 field64 _ (g .result) (g .ensures) 32 (omega (arith, row-roots-bounded _ (s .pre .0))) (s .args .«data» .now) (l .r) _ (l .k)
           (s .pre .1 (l .k)) (l .inv .2) (c .before .turn .ensures),
     )
 
 returns : tie.Need-returns Inv-loop μ-loop
 returns c =
-    let e : c .before .loop .k ≡ length (c .before .before .before .before .before .args .«data» .now) = omega arith in
-    record { divisor = symbol (c .before .before .before .generator .result); generator = c .before .before .before .generator .ensures .generator; divided = rw e at (c .before .loop .inv .2) }
+    let e : c .before .loop .k ≡ length (c .before .before .before .before .args .«data» .now) = omega arith in
+    record { divisor = symbol (c .before .before .generator .result); generator = c .before .before .generator .ensures .generator; divided = rw e at (c .before .loop .inv .2) }
 
 pub remainder-spec : {M : Type 1} → statement M
 remainder-spec =
@@ -71,7 +67,6 @@ remainder-spec =
     Inv-loop
     μ-loop
     generator-requires
-    lanes-requires
     loop-holds
     slice-aggregate-turn
     slice-aggregate-turn-2

@@ -19,10 +19,10 @@ abbrev goal : List ℕ → List ℕ → ℕ → ℕ → ℕ
 goal r g f i = add (symbol r (suc i)) (mul 6 67 f (symbol g (suc i)))
 
 abbrev Inv-loop : tie.InvT-loop
-Inv-loop r₀ g n u f i₀ r i = (i ≤ n) × (length r ≡ length r₀) × Written i (goal r₀ g f) r₀ r
+Inv-loop r₀ g u f i₀ r i = (i ≤ 32) × (length r ≡ length r₀) × Written i (goal r₀ g f) r₀ r
 
 abbrev μ-loop : tie.MeasureT-loop
-μ-loop r₀ g n u f i₀ r i = n - i
+μ-loop r₀ g u f i₀ r i = 32 - i
 
 slice-read-f : tie.Need-slice-read-f Inv-loop μ-loop
 slice-read-f c = search needs
@@ -72,7 +72,7 @@ same-length c = search needs
 
 returns : tie.Need-returns Inv-loop μ-loop
 unfolding add
-returns c = let e : c .before .loop .i ≡ c .before .before .before .before .before .args .n = omega arith in rw e at (c .before .loop .inv .2)
+returns c = let e : c .before .loop .i ≡ 32 = omega arith in rw e at (c .before .loop .inv .2)
 
 pub turn-spec : {M : Type 1} → statement M
 turn-spec =
