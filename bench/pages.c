@@ -6,7 +6,7 @@
 #include <stdio.h>
 #include <string.h>
 
-enum { DATA = 150, WRITTEN = 252, SOFT = 1890, PAGES = 100, ROUNDS = 9, LIMIT = 500, WAYS = 3 };
+enum { DATA = 150, WRITTEN = 252, SOFT = 1890, PAGES = 100, ROUNDS = 40, LIMIT = 500, WAYS = 3 };
 
 static uint8_t data[PAGES][DATA], soft[PAGES][SOFT], written[2][PAGES][WRITTEN], back[WAYS][PAGES][DATA];
 static page_outcome outcomes[WAYS][PAGES];
@@ -32,7 +32,7 @@ int main(void) {
     page_baseline_start();
     for (int p = 0; p < PAGES; p++) for (int k = 0; k < DATA; k++) data[p][k] = (uint8_t)(draw() >> 56);
     double code[2] = {1e9, 1e9};
-    for (int round = 0; round < 10 * ROUNDS; round++) {
+    for (int round = 0; round < 5 * ROUNDS; round++) {
         double t = seconds();
         for (int p = 0; p < PAGES; p++) entry_encode_page(data[p], DATA, written[0][p], WRITTEN);
         least(&code[0], t);
