@@ -1,16 +1,16 @@
 -- Answers as numbers. Assumes nothing.
-use Rattle.store.specs.Answer.{number, place, value}
-use Rattle.store.specs.declared.Answer.{Answer}
-use Rattle.store.specs.declared.SearchAnswer.{SearchAnswer}
-use Rattle.store.specs.Searches as searches
+use Rattle.questions.specs.Answer.{number, place, value}
+use Rattle.questions.specs.declared.Answer.{Answer}
+use Rattle.store_searches.specs.declared.SearchAnswer.{SearchAnswer}
+use Rattle.store_searches.specs.Searches as searches
 use mathlib.Core.List.{List}
 use mathlib.Core.Path.{_≡_}
 use Prim.Native.Nat.{ℕ}
-use Rattle.store.specs.declared.Outcome.{Outcome}
-use Rattle.store.specs.Outcome as outcomes
+use Rattle.questions.specs.declared.Outcome.{Outcome}
+use Rattle.questions.specs.Outcome as outcomes
 use Rattle.trellis.specs.Demand.{Search}
 use Rattle.page.specs.declared.pages.PageOutcome.{PageOutcome}
-use Rattle.store.specs.Pages.{PageDecoded}
+use Rattle.store_pages.specs.Pages.{PageDecoded}
 use Rattle.entries.specs.declared.PageReply.{PageReply}
 use Rattle.entries.specs.declared.Reply.{Reply}
 use Rattle.entries.specs.declared.Told.{Told}

@@ -1,21 +1,21 @@
 // Test entries for C, thin over the public calls: what tests/run-vectors calls. Each answers with number, place and value, as store's specs/Answer.antt gives them.
 ghost use mathlib.Core.Path.{_≡_};
-ghost use Rattle.store.specs.Columns.{encodeAnswer, levelWordAnswer, reimageAnswer};
+ghost use Rattle.store_columns.specs.Columns.{encodeAnswer, levelWordAnswer, reimageAnswer};
 ghost use Rattle.trellis.specs.Demand.{whole, supercode};
-ghost use Rattle.store.specs.Searches.{searchAnswer};
+ghost use Rattle.store_searches.specs.Searches.{searchAnswer};
 ghost use Rattle.reedsolomon.specs.Row.{outerAnswer, encodedRow, wordOf};
 ghost use Rattle.dump.specs.Dump.{dumpOf, softOf};
-ghost use Rattle.store.specs.Rows.{rootsOf, encodeRowAnswer, decodeRowAnswer};
-ghost use Rattle.store.specs.Dumps.{writeAnswer, readAnswer};
+ghost use Rattle.store_rows.specs.Rows.{rootsOf, encodeRowAnswer, decodeRowAnswer};
+ghost use Rattle.store_dumps.specs.Dumps.{writeAnswer, readAnswer};
 ghost use Rattle.entries.specs.Told.{toldOf, foundOf, replyOf, Replied, pageReplyOf, PageReplied};
 ghost use Rattle.concatenated.specs.Format.{shortPage};
 ghost use Rattle.concatenated.specs.Written.{writtenPage};
 ghost use Rattle.concatenated.specs.OuterCode.{shortEncoder};
-ghost use Rattle.store.specs.Pages.{encodePageAnswer};
+ghost use Rattle.store_pages.specs.Pages.{encodePageAnswer};
 use page::pages::PageOutcome;
-use store::Answer;
-use store::Outcome;
-use store::SearchAnswer;
+use questions::Answer;
+use questions::Outcome;
+use store_searches::SearchAnswer;
 
 #[repr(C)]
 pub struct Told {
@@ -45,21 +45,21 @@ fn numbers_of(answer: Answer) -> Told
 pub extern "C" fn entry_encode_column(symbols: &[u8]) -> Told
     ensures { λ r. ⌜ r ≡ toldOf (encodeAnswer (now (symbols .entry))) ⌝ }
 {
-    numbers_of(store::columns::encode_column(symbols))
+    numbers_of(store_columns::encode_column(symbols))
 }
 
 #[no_mangle]
 pub extern "C" fn entry_level_word(level: u64, symbol: u64) -> Told
     ensures { λ r. ⌜ r ≡ toldOf (levelWordAnswer level symbol) ⌝ }
 {
-    numbers_of(store::columns::level_word(level, symbol))
+    numbers_of(store_columns::level_word(level, symbol))
 }
 
 #[no_mangle]
 pub extern "C" fn entry_reimage(column: u64, level: u64) -> Told
     ensures { λ r. ⌜ r ≡ toldOf (reimageAnswer column level) ⌝ }
 {
-    numbers_of(store::columns::reimage(column, level))
+    numbers_of(store_columns::reimage(column, level))
 }
 
 #[repr(C)]
@@ -93,14 +93,14 @@ fn numbers_of_search(answer: SearchAnswer) -> Found
 pub extern "C" fn entry_search_whole(soft: &[u8], level: u64, limit: u64) -> Found
     ensures { λ r. ⌜ r ≡ foundOf (searchAnswer whole (now (soft .entry)) level limit) ⌝ }
 {
-    numbers_of_search(store::searches::search_whole(soft, level, limit))
+    numbers_of_search(store_searches::search_whole(soft, level, limit))
 }
 
 #[no_mangle]
 pub extern "C" fn entry_search_supercode(soft: &[u8], level: u64, limit: u64) -> Found
     ensures { λ r. ⌜ r ≡ foundOf (searchAnswer supercode (now (soft .entry)) level limit) ⌝ }
 {
-    numbers_of_search(store::searches::search_supercode(soft, level, limit))
+    numbers_of_search(store_searches::search_supercode(soft, level, limit))
 }
 
 #[repr(C)]
@@ -128,7 +128,7 @@ fn numbers_of_outcome(outcome: Outcome) -> Reply
 pub extern "C" fn entry_encode_row(level: u64, data: &[u8], out: &mut [u8]) -> Reply
     ensures { λ r. ⌜ Replied (encodeRowAnswer level (now («data» .entry)) (now (out .entry))) (encodedRow 6 67 63 (rootsOf level) (now («data» .entry))) (now (out .entry)) r (now (out .exit)) ⌝ }
 {
-    numbers_of_outcome(store::rows::encode_row(level, data, out))
+    numbers_of_outcome(store_rows::encode_row(level, data, out))
 }
 
 #[no_mangle]
@@ -141,28 +141,28 @@ pub extern "C" fn entry_decode_row(
     ensures { λ r. ⌜ Replied (decodeRowAnswer level (now (symbols .entry)) (now (marks .entry)) (now (out .entry)))
         (wordOf (now (out .entry)) (outerAnswer 6 67 63 (rootsOf level) (now (symbols .entry)) (now (marks .entry)))) (now (out .entry)) r (now (out .exit)) ⌝ }
 {
-    numbers_of_outcome(store::rows::decode_row(level, symbols, marks, out))
+    numbers_of_outcome(store_rows::decode_row(level, symbols, marks, out))
 }
 
 #[no_mangle]
 pub extern "C" fn entry_write_dump(soft: &[u8], out: &mut [u8]) -> Reply
     ensures { λ r. ⌜ Replied (writeAnswer (now (soft .entry)) (now (out .entry))) (dumpOf (now (soft .entry))) (now (out .entry)) r (now (out .exit)) ⌝ }
 {
-    numbers_of_outcome(store::dumps::write_dump(soft, out))
+    numbers_of_outcome(store_dumps::write_dump(soft, out))
 }
 
 #[no_mangle]
 pub extern "C" fn entry_read_dump(dump: &[u8], out: &mut [u8]) -> Reply
     ensures { λ r. ⌜ Replied (readAnswer (now (dump .entry)) (now (out .entry))) (softOf (now (dump .entry))) (now (out .entry)) r (now (out .exit)) ⌝ }
 {
-    numbers_of_outcome(store::dumps::read_dump(dump, out))
+    numbers_of_outcome(store_dumps::read_dump(dump, out))
 }
 
 #[no_mangle]
 pub extern "C" fn entry_encode_page(data: &[u8], out: &mut [u8]) -> Reply
     ensures { λ r. ⌜ Replied (encodePageAnswer (now («data» .entry)) (now (out .entry))) (writtenPage shortPage shortEncoder (now («data» .entry))) (now (out .entry)) r (now (out .exit)) ⌝ }
 {
-    numbers_of_outcome(store::pages::encode_page(data, out))
+    numbers_of_outcome(store_pages::encode_page(data, out))
 }
 
 #[repr(C)]
@@ -192,12 +192,12 @@ fn numbers_of_page(outcome: PageOutcome) -> PageReply
 pub extern "C" fn entry_decode_page(soft: &[u8], limit: u64, data: &mut [u8]) -> PageReply
     ensures { λ r. ⌜ PageReplied supercode (now (soft .entry)) limit (now («data» .entry)) r (now («data» .exit)) ⌝ }
 {
-    numbers_of_page(store::pages::decode_page(soft, limit, data))
+    numbers_of_page(store_pages::decode_page(soft, limit, data))
 }
 
 #[no_mangle]
 pub extern "C" fn entry_decode_page_whole(soft: &[u8], limit: u64, data: &mut [u8]) -> PageReply
     ensures { λ r. ⌜ PageReplied whole (now (soft .entry)) limit (now («data» .entry)) r (now («data» .exit)) ⌝ }
 {
-    numbers_of_page(store::pages::decode_page_whole(soft, limit, data))
+    numbers_of_page(store_pages::decode_page_whole(soft, limit, data))
 }

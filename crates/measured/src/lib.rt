@@ -52,7 +52,7 @@ pub extern "C" fn measured_searches(soft: &[u8], level: u64, supercode: u64, lim
     if 2000 < limit {
         return 0;
     }
-    if store::questions::first_above(soft, 7) < soft.len() {
+    if questions::first_above(soft, 7) < soft.len() {
         return 0;
     }
     let i = level as usize;

@@ -11,8 +11,8 @@ use Rattle.trellis.specs.Demand.{Search}
 use Rattle.concatenated.specs.Decode.{Decoded, answered, refused}
 use Rattle.page.specs.Outcomes.{outcomeOf, dataAfter}
 use Rattle.page.specs.declared.pages.PageOutcome.{PageOutcome}
-use Rattle.store.specs.Questions.{firstAbove}
-use Rattle.store.specs.Pages.{decodedPage, PageDecoded}
+use Rattle.questions.specs.Questions.{firstAbove}
+use Rattle.store_pages.specs.Pages.{decodedPage, PageDecoded}
 use Rattle.listing.specs.Lines.{refusedLine, pageText}
 use Rattle.readpage.specs.Report.{decodedText}
 

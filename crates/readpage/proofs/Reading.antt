@@ -10,13 +10,14 @@ use lib.Seq.{length-take-le}
 use Rattle.io.specs.Counts.{Counts}
 use Rattle.trellis.specs.Demand.{supercode}
 use Rattle.dump.specs.Dump.{softOf}
-use Rattle.store.specs.Outcome.{after, Filled}
-use Rattle.store.specs.Dumps.{readAnswer}
-use Rattle.store.specs.Pages.{decodedPage}
-use Rattle.store.specs.Questions.{firstAbove}
-use Rattle.store.specs.declared.Outcome.{Outcome}
-use Rattle.store.specs.declared.Outcome.the-variants.{Done, Refused}
-use Rattle.store.proofs.DumpAnswers.{read-passes, no-value-above}
+use Rattle.questions.specs.Outcome.{after, Filled}
+use Rattle.store_dumps.specs.Dumps.{readAnswer}
+use Rattle.store_pages.specs.Pages.{decodedPage}
+use Rattle.questions.specs.Questions.{firstAbove}
+use Rattle.questions.specs.declared.Outcome.{Outcome}
+use Rattle.questions.specs.declared.Outcome.the-variants.{Done, Refused}
+use Rattle.store_dumps.proofs.DumpAnswers.{read-passes}
+use Rattle.questions.proofs.AllInRange.{no-value-above}
 use Rattle.listing.specs.Text.{Appended}
 use Rattle.listing.specs.Lines.{refusedLine}
 use Rattle.readpage.specs.Report.{decodedText, readText, outputOf}
@@ -29,8 +30,8 @@ soft-read {made = made} {old = old} filled done = filled .bytes ∙ ap (λ (o : 
 pub soft-in-range : (dump old new : List ℕ) (r : Outcome) → Filled (readAnswer dump old) (softOf dump) old r new → r ≡ Done
     → leb 1890 (firstAbove new 7) ≡ true
 soft-in-range dump old new r filled done =
-    ap (λ (l : List ℕ). leb 1890 (firstAbove l 7)) (soft-read filled done)
-    ∙ no-value-above (softOf dump) (read-passes dump old (sym (filled .answer) ∙ done) .values)
+    let page = read-passes dump old (sym (filled .answer) ∙ done) .values in
+    ap (λ (l : List ℕ). leb 1890 (firstAbove l 7)) (soft-read filled done) ∙ no-value-above (softOf dump) 1890 7 (page .size) (page .range)
 
 -- text at the front of a buffer with room for it
 pub counted : {r most : ℕ} {text old new : List ℕ} → Appended 0 text most old r new → most ≤ length old → Counts r new

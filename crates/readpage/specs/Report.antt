@@ -8,10 +8,10 @@ use Rattle.concatenated.specs.Format.{shortPage}
 use Rattle.concatenated.specs.Decode.{rows, Decoded, answered, refused}
 use Rattle.concatenated.specs.Written.{bytesOfRows}
 use Rattle.page.specs.Outcomes.{changedTotals, erasedTotals}
-use Rattle.store.specs.Dumps.{readAnswer}
-use Rattle.store.specs.Pages.{decodedPage}
-use Rattle.store.specs.declared.Outcome.{Outcome}
-use Rattle.store.specs.declared.Outcome.the-variants.{Done, Refused}
+use Rattle.store_dumps.specs.Dumps.{readAnswer}
+use Rattle.store_pages.specs.Pages.{decodedPage}
+use Rattle.questions.specs.declared.Outcome.{Outcome}
+use Rattle.questions.specs.declared.Outcome.the-variants.{Done, Refused}
 use Rattle.listing.specs.Lines.{refusedLine, pageText}
 
 -- of page decoding: 10 has the level as its place

@@ -7,13 +7,13 @@ ghost use lib.Dec.{leb};
 ghost use lib.ListN.{length, take};
 ghost use Rattle.io.specs.Counts.{Counts};
 ghost use Rattle.trellis.specs.Demand.{supercode};
-ghost use Rattle.store.specs.Questions.{firstAbove};
-ghost use Rattle.store.specs.Pages.{decodedPage};
+ghost use Rattle.questions.specs.Questions.{firstAbove};
+ghost use Rattle.store_pages.specs.Pages.{decodedPage};
 ghost use Rattle.listing.specs.Text.{Appended};
 ghost use Rattle.readpage.specs.Report.{decodedText, outputOf};
 use libc::STDIN_FILENO;
 use libc::STDOUT_FILENO;
-use store::Outcome;
+use questions::Outcome;
 
 // The lines of a soft page, each value 0..7.
 fn page_text(soft: &[u8], out: &mut [u8]) -> usize
@@ -21,7 +21,7 @@ fn page_text(soft: &[u8], out: &mut [u8]) -> usize
     ensures { λ r. ⌜ Appended 0 (decodedText (decodedPage supercode (now (soft .entry)) 500)) 677 (now (out .entry)) r (now (out .exit)) ⌝ }
 {
     let mut data = [0u8; 150];
-    let page = store::pages::decode_page(soft, 500, &mut data);
+    let page = store_pages::decode_page(soft, 500, &mut data);
     if page.number != 0 {
         return listing::append_refused(page.number, page.place, out, 0);
     }
@@ -42,7 +42,7 @@ fn output_of(dump: &[u8], out: &mut [u8]) -> usize
     ensures { λ r. ⌜ take r (now (out .exit)) ≡ outputOf (now (dump .entry)) ⌝ }
 {
     let mut soft = [0u8; 1890];
-    match store::dumps::read_dump(dump, &mut soft) {
+    match store_dumps::read_dump(dump, &mut soft) {
         Outcome::Done => page_text(&soft, out),
         Outcome::Refused(n, p) => listing::append_refused(n, p, out, 0),
     }

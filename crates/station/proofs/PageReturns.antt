@@ -10,8 +10,8 @@ use lib.ListN.{length, take, drop}
 use lib.Seq.{take-all, drop-length}
 use Rattle.trellis.specs.Demand.{supercode}
 use Rattle.page.specs.declared.pages.PageOutcome.{PageOutcome}
-use Rattle.store.specs.Questions.{ask}
-use Rattle.store.specs.Pages.{PageDecoded, refusedPage, askPage}
+use Rattle.questions.specs.Questions.{ask}
+use Rattle.store_pages.specs.Pages.{PageDecoded, refusedPage, askPage}
 use Rattle.station.specs.Returned.{returned}
 use Rattle.station.specs.Report.{reportOf}
 use Rattle.station.specs.PageReturned.{PageReturned, limit, askDecode, decodeAnswer, reportAfter}

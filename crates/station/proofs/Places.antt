@@ -15,11 +15,11 @@ use Rattle.concatenated.specs.Outer.{RowAnswer, row, none, RowDecoder}
 use Rattle.concatenated.specs.Decode.{Reader, Reading, Level, State, going, stopped, refused, decodedRow, settle, onward, run, outcome, decoded}
 use Rattle.page.specs.Outcomes.{outcomeOf}
 use Rattle.page.specs.declared.pages.PageOutcome.{PageOutcome}
-use Rattle.store.specs.Questions.{ask, firstAbove}
-use Rattle.store.specs.Outcome.{number, place}
-use Rattle.store.specs.Pages.{encodePageAnswer, refusedPage, askPage, decodedPage}
-use Rattle.store.specs.Dumps.{askFixed, askCheck, readAnswer}
-use Rattle.store.specs.declared.Outcome.{Outcome}
+use Rattle.questions.specs.Questions.{ask, firstAbove}
+use Rattle.questions.specs.Outcome.{number, place}
+use Rattle.store_pages.specs.Pages.{encodePageAnswer, refusedPage, askPage, decodedPage}
+use Rattle.store_dumps.specs.Dumps.{askFixed, askCheck, readAnswer}
+use Rattle.questions.specs.declared.Outcome.{Outcome}
 use Rattle.station.specs.Returned.{returned}
 
 -- the largest number is 10, and a place is a block, a level or an index of a soft page

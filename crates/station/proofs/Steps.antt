@@ -18,7 +18,7 @@ use Rattle.page.specs.Outcomes.{outcomeOf}
 use Rattle.page.specs.declared.pages.PageOutcome.{PageOutcome}
 use Rattle.readings.proofs.RowReading.{count-within-the-limit}
 use Rattle.concatenated.proofs.SoftPages.{as-many-columns}
-use Rattle.store.specs.Pages.{refusedPage, decodedPage}
+use Rattle.store_pages.specs.Pages.{refusedPage, decodedPage}
 use Rattle.station.specs.Report.{reportOf, stepsIn}
 use Rattle.station.specs.PageReturned.{limit, decodeAnswer}
 use Rattle.station.proofs.Places.{either, every-way}

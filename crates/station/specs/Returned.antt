@@ -2,8 +2,8 @@
 use mathlib.Core.List.{List}
 use mathlib.Core.Path.{_≡_}
 use Prim.Native.Nat.{ℕ, _+_, _*_}
-use Rattle.store.specs.Outcome.{number, place, after}
-use Rattle.store.specs.declared.Outcome.{Outcome}
+use Rattle.questions.specs.Outcome.{number, place, after}
+use Rattle.questions.specs.declared.Outcome.{Outcome}
 
 -- a number and its place as one number; 0 is success
 abbrev pub returned : ℕ → ℕ → ℕ

@@ -6,14 +6,14 @@ ghost use Rattle.dump.specs.Dump.{softOf};
 ghost use Rattle.concatenated.specs.Format.{shortPage};
 ghost use Rattle.concatenated.specs.Written.{writtenPage};
 ghost use Rattle.concatenated.specs.OuterCode.{shortEncoder};
-ghost use Rattle.store.specs.Pages.{encodePageAnswer};
-ghost use Rattle.store.specs.Dumps.{readAnswer};
-ghost use Rattle.store.specs.Outcome.{number, place};
+ghost use Rattle.store_pages.specs.Pages.{encodePageAnswer};
+ghost use Rattle.store_dumps.specs.Dumps.{readAnswer};
+ghost use Rattle.questions.specs.Outcome.{number, place};
 ghost use Rattle.station.specs.Returned.{returned, Returned};
 ghost use Rattle.station.specs.Report.{reportOf};
 ghost use Rattle.station.specs.PageReturned.{PageReturned};
 use page::pages::PageOutcome;
-use store::Outcome;
+use questions::Outcome;
 
 // A number and a place as one number.
 fn returned_number(number: u64, place: u64) -> u64
@@ -38,7 +38,7 @@ fn returned_outcome(outcome: Outcome) -> u64
 pub extern "C" fn station_encode_page(data: &[u8], page: &mut [u8]) -> u64
     ensures { λ r. ⌜ Returned (encodePageAnswer (now («data» .entry)) (now (page .entry))) (writtenPage shortPage shortEncoder (now («data» .entry))) (now (page .entry)) r (now (page .exit)) ⌝ }
 {
-    returned_outcome(store::pages::encode_page(data, page))
+    returned_outcome(store_pages::encode_page(data, page))
 }
 
 // Reads the soft page of a dump of 2,048 bytes into `soft`, of 1,890 bytes. Refused by 1, 2, 7, 8 and 5.
@@ -46,7 +46,7 @@ pub extern "C" fn station_encode_page(data: &[u8], page: &mut [u8]) -> u64
 pub extern "C" fn station_read_dump(dump: &[u8], soft: &mut [u8]) -> u64
     ensures { λ r. ⌜ Returned (readAnswer (now (dump .entry)) (now (soft .entry))) (softOf (now (dump .entry))) (now (soft .entry)) r (now (soft .exit)) ⌝ }
 {
-    returned_outcome(store::dumps::read_dump(dump, soft))
+    returned_outcome(store_dumps::read_dump(dump, soft))
 }
 
 // The report's 12 bytes: the steps in four, high byte first; then each level's changed and erased total.
@@ -83,7 +83,7 @@ pub extern "C" fn station_decode_page(soft: &[u8], data: &mut [u8], report: &mut
     if report.len() != 12 {
         return returned_number(2, 0);
     }
-    let outcome = store::pages::decode_page(soft, 500, data);
+    let outcome = store_pages::decode_page(soft, 500, data);
     let number = outcome.number;
     let place = outcome.place;
     if number != 0 {

@@ -4,8 +4,8 @@ use Prim.Native.Nat.{ℕ, _≤_}
 use lib.ListN.{length}
 use Rattle.trellis.specs.Demand.{whole, supercode}
 use Rattle.search.proofs.ShortSearch.{masks-are-odd}
-use Rattle.store.specs.Questions.{firstAbove}
-use Rattle.store.proofs.FirstAbove.{below-first}
+use Rattle.questions.specs.Questions.{firstAbove}
+use Rattle.questions.proofs.FirstAbove.{below-first}
 use native.Mathlib.Omega.{arith}
 use borrow.Author.Needs.{needs}
 use Rattle.measured.proofs.measured_searches.Statement.{statement}

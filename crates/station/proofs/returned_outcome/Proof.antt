@@ -1,7 +1,7 @@
 -- `station::returned_outcome` meets its contract, case by case. Assumes nothing.
 use mathlib.Core.Path.{_≡_, sym, ap, _∙_, subst}
-use Rattle.store.specs.declared.Outcome.{Outcome}
-use Rattle.store.specs.Outcome.{number, place}
+use Rattle.questions.specs.declared.Outcome.{Outcome}
+use Rattle.questions.specs.Outcome.{number, place}
 use Rattle.station.specs.Returned.{returned}
 use Rattle.station.proofs.Places.{SmallOutcome}
 use native.Mathlib.Omega.{arith}

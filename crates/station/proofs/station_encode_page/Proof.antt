@@ -1,7 +1,7 @@
 -- `station::station_encode_page` meets its contract: the call's outcome as one number, and its bytes. Assumes nothing.
 use mathlib.Core.Path.{ap, _∙_, subst⁻¹}
-use Rattle.store.specs.declared.Outcome.{Outcome}
-use Rattle.store.specs.Outcome.{number, place}
+use Rattle.questions.specs.declared.Outcome.{Outcome}
+use Rattle.questions.specs.Outcome.{number, place}
 use Rattle.station.specs.Returned.{returned}
 use Rattle.station.proofs.Places.{SmallOutcome, encode-small}
 use borrow.Author.Needs.{needs}

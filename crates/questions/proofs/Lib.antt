@@ -1,0 +1,3 @@
+pub mod FirstAbove
+pub mod AllInRange
+pub mod Filled

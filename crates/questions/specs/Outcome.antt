@@ -1,0 +1,24 @@
+-- What the cases of an outcome are in 01's words, and what a call that fills a lent buffer promises. Assumes nothing.
+use Prim.Native.Nat.{ℕ}
+use mathlib.Core.List.{List}
+use mathlib.Core.Path.{_≡_}
+use Rattle.questions.specs.declared.Outcome.{Outcome}
+use Rattle.questions.specs.declared.Outcome.the-variants.{Done, Refused}
+
+abbrev pub number : Outcome → ℕ
+number Done = 0
+number (Refused n p) = n
+
+abbrev pub place : Outcome → ℕ
+place Done = 0
+place (Refused n p) = p
+
+-- 01: "The first no gives its number and a place .. and buffers stay untouched"
+abbrev pub after : Outcome → List ℕ → List ℕ → List ℕ
+after Done made old = made
+after (Refused n p) made old = old
+
+-- a call that is due to answer `due`, and to make `made` where it does not refuse, answered r and left `new` in the place of `old`
+pub record Filled (due : Outcome) (made old : List ℕ) (r : Outcome) (new : List ℕ) : Type 0 where
+  pub answer : r ≡ due
+  pub bytes : new ≡ after due made old

@@ -1,9 +1,0 @@
-pub mod Answer
-pub mod Questions
-pub mod Columns
-pub mod Searches
-pub mod Outcome
-pub mod Dumps
-pub mod Rows
-pub mod Pages
-pub mod BothDecoders

@@ -1,0 +1,2 @@
+pub mod DumpBlocks
+pub mod DumpAnswers

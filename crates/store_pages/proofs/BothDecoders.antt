@@ -1,0 +1,74 @@
+-- decode_page and decode_page_whole: demand 3 for pages, carried to the two calls by their contracts. Assumes nothing.
+use mathlib.Core.Bool.{Bool, true, false}
+use mathlib.Core.List.{List}
+use mathlib.Core.Path.{_≡_, refl, sym, ap, _∙_, subst}
+use Prim.Native.Nat.{ℕ, _+_}
+use native.Mathlib.Omega.{arith}
+use lib.Dec.{eqb, leb}
+use lib.ListN.{length}
+use Rattle.column.specs.Shape.{short}
+use Rattle.trellis.specs.Values.{values}
+use Rattle.trellis.specs.Demand.{whole, supercode}
+use Rattle.concatenated.specs.Format.{shortPage}
+use Rattle.concatenated.specs.SoftPage.{softColumns}
+use Rattle.concatenated.specs.Decode.{Decoded, answered, refused}
+use Rattle.concatenated.specs.Readers.{Agree, NoneSpent, deadAhead, sumBelow, shortReader}
+use Rattle.concatenated.specs.OuterCode.{shortOuter}
+use Rattle.page.specs.Outcomes.{outcomeOf, dataAfter}
+use Rattle.page.specs.declared.pages.PageOutcome.{PageOutcome}
+use Rattle.concatenated.proofs.Short.{decoders-agree}
+use Rattle.questions.specs.Questions.{ask, firstAbove}
+use Rattle.store_pages.specs.Pages.{refusedPage, decodedPage, askPage, PageDecoded}
+use Rattle.store_pages.specs.BothDecoders.{SameButSteps}
+
+outcomes-agree : (d : ℕ) (w s : Decoded) → Agree d w s → SameButSteps d (outcomeOf s) (outcomeOf w)
+unfolding outcomeOf
+outcomes-agree d (answered ls m) (answered ks n) e =
+    record { number = refl; place = refl; changed = ap (λ l. outcomeOf (answered l n) .changed) (sym (e .0)); erased = ap (λ l. outcomeOf (answered l n) .erased) (sym (e .0)); steps = λ z. e .1 }
+outcomes-agree d (answered ls m) (refused k) e = absurd e
+outcomes-agree d (refused l) (answered ks n) e = absurd e
+outcomes-agree d (refused l) (refused k) e = record { number = refl; place = sym e; changed = refl; erased = refl; steps = λ z. absurd (omega arith) }
+
+data-agree : (d : ℕ) (old : List ℕ) (w s : Decoded) → Agree d w s → dataAfter old s ≡ dataAfter old w
+unfolding dataAfter
+data-agree d old (answered ls m) (answered ks n) e = ap (λ l. dataAfter old (answered l n)) (sym (e .0))
+data-agree d old (answered ls m) (refused k) e = absurd e
+data-agree d old (refused l) (answered ks n) e = absurd e
+data-agree d old (refused l) (refused k) e = refl
+
+refusals-agree : (d n p : ℕ) → (n ≡ 0 → ⊥) → SameButSteps d (refusedPage n p) (refusedPage n p)
+refusals-agree d n p some = record { number = refl; place = refl; changed = refl; erased = refl; steps = λ z. absurd (some z) }
+
+-- the same questions lead both calls to the same refusal, or both on
+asked-alike : (d : ℕ) (soft : List ℕ) (limit : ℕ) (old : List ℕ) (s w : PageOutcome) → SameButSteps d s w → SameButSteps d (askPage soft limit old refusedPage s) (askPage soft limit old refusedPage w)
+asked-alike d soft limit old s w same =
+    go (eqb (length soft) 1890) (eqb (length old) 150) (leb 1 limit) (leb limit 2000) (leb 1890 (firstAbove soft 7))
+  where
+    go : (a b c e f : Bool)
+        → SameButSteps d (ask a (refusedPage 1 0) (ask b (refusedPage 2 0) (ask c (refusedPage 4 0) (ask e (refusedPage 4 0) (ask f (refusedPage 5 (firstAbove soft 7)) s)))))
+        (ask a (refusedPage 1 0) (ask b (refusedPage 2 0) (ask c (refusedPage 4 0) (ask e (refusedPage 4 0) (ask f (refusedPage 5 (firstAbove soft 7)) w)))))
+    go false b c e f = refusals-agree d 1 0 (λ z. absurd (omega arith))
+    go true false c e f = refusals-agree d 2 0 (λ z. absurd (omega arith))
+    go true true false e f = refusals-agree d 4 0 (λ z. absurd (omega arith))
+    go true true true false f = refusals-agree d 4 0 (λ z. absurd (omega arith))
+    go true true true true false = refusals-agree d 5 (firstAbove soft 7) (λ z. absurd (omega arith))
+    go true true true true true = same
+
+module _ (soft : List ℕ) (limit : ℕ) (none-spent : NoneSpent short shortOuter (shortReader supercode limit) (softColumns shortPage soft)) where
+  -- all dead paths ahead of the codewords of the page's column searches together
+  abbrev pub deadPaths : ℕ
+  deadPaths = sumBelow short shortOuter (shortReader supercode limit) (softColumns shortPage soft) (deadAhead short (λ i. values) limit) 4
+
+  -- Where no supercode search at levels 1..3 that the supercode decoder makes is spent, both calls give the same bytes, number, place and totals, and the step
+  -- sums of an answered page differ by exactly the dead paths ahead. That the changed and erased columns are the same sets is `decoders-agree`.
+  pub decode-page-and-decode-page-whole : (old : List ℕ) (rs rw : PageOutcome) (ns nw : List ℕ)
+      → PageDecoded supercode soft limit old rs ns → PageDecoded whole soft limit old rw nw → SameButSteps deadPaths rs rw × (ns ≡ nw)
+  decode-page-and-decode-page-whole old rs rw ns nw s w =
+      let agree = decoders-agree shortOuter limit (softColumns shortPage soft) none-spent in
+      let D = decodedPage whole soft limit in
+      let E = decodedPage supercode soft limit in (
+        subst (λ (x : PageOutcome). SameButSteps deadPaths x rw) (sym (s .answer))
+            (subst (λ (x : PageOutcome). SameButSteps deadPaths (askPage soft limit old refusedPage (outcomeOf E)) x) (sym (w .answer))
+            (asked-alike deadPaths soft limit old (outcomeOf E) (outcomeOf D) (outcomes-agree deadPaths D E agree))),
+        s .bytes ∙ ap (askPage soft limit old (λ n p. old)) (data-agree deadPaths old D E agree) ∙ sym (w .bytes),
+      )

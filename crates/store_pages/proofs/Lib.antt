@@ -1,0 +1,3 @@
+pub mod SoftValues
+pub mod BothDecoders
+pub mod WrittenPages

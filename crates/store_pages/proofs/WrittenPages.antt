@@ -1,0 +1,45 @@
+-- Demand 2 of the calls: a written page comes back from either page decoder. Assumes nothing.
+use mathlib.Core.List.{List}
+use mathlib.Core.Path.{_≡_, refl, ap, _∙_}
+use Prim.Native.Nat.{ℕ, _≤_}
+use borrow.Author.Tests.{eq-eqb, le-leb}
+use lib.ListN.{length}
+use Rattle.dump.specs.Accepted.{Values}
+use Rattle.trellis.specs.Demand.{Search}
+use Rattle.concatenated.specs.Format.{shortPage}
+use Rattle.concatenated.specs.SoftPage.{softColumns}
+use Rattle.concatenated.specs.Decode.{Decoded, Level, answered, rows}
+use Rattle.concatenated.specs.Written.{writtenRows, columnsOf, bytesOfRows}
+use Rattle.concatenated.specs.Misread.{WithinReach}
+use Rattle.concatenated.specs.Readers.{shortReader}
+use Rattle.concatenated.specs.OuterCode.{shortOuter, shortEncoder, ShortCodeword}
+use Rattle.page.specs.Outcomes.{outcomeOf, dataAfter}
+use Rattle.page.specs.declared.pages.PageOutcome.{PageOutcome}
+use Rattle.concatenated.proofs.Digits.{Below}
+use Rattle.concatenated.proofs.OuterJoint.{outer-laws}
+use Rattle.concatenated.proofs.Short.{written-page-comes-back}
+use Rattle.store_pages.specs.Pages.{refusedPage, decodedPage, askPage, PageDecoded}
+use Rattle.questions.proofs.AllInRange.{no-value-above}
+
+answered-number : (d : Decoded) (ls : List Level) (n : ℕ) → d ≡ answered ls n → outcomeOf d .number ≡ 0
+unfolding outcomeOf
+answered-number d ls n e = rw e refl
+
+answered-data : (old : List ℕ) (d : Decoded) (ls : List Level) (n : ℕ) → d ≡ answered ls n → dataAfter old d ≡ bytesOfRows shortPage (rows ls)
+unfolding dataAfter
+answered-data old d ls n e = rw e refl
+
+module _ (soft : List ℕ) (values-soft : Values 1890 7 soft) (limit : ℕ) (some : 1 ≤ limit) (at-most : limit ≤ 2000) (old : List ℕ) (room : length old ≡ 150) where
+  all-yes : {A : Type 0} (refusal : ℕ → ℕ → A) (next : A) → askPage soft limit old refusal next ≡ next
+  all-yes refusal next = simp (eq-eqb _ _ (values-soft .size), eq-eqb _ _ room, le-leb _ _ some, le-leb _ _ at-most, no-value-above soft 1890 7 (values-soft .size) (values-soft .range))
+
+  -- what `encode_page` wrote, read within reach at each level, is answered with number 0, and the buffer holds the data
+  pub written-page-comes-back-from-the-calls : (s : Search) (bytes : List ℕ) → length bytes ≡ 150 → Below 256 bytes
+      → WithinReach shortPage shortOuter (shortReader s limit) (columnsOf 63 (writtenRows shortPage shortEncoder bytes)) (softColumns shortPage soft)
+      → (r : PageOutcome) (new : List ℕ) → PageDecoded s soft limit old r new → (r .number ≡ 0) × (new ≡ bytes)
+  written-page-comes-back-from-the-calls s bytes full are-bytes within r new call =
+      let back = written-page-comes-back shortOuter shortEncoder ShortCodeword outer-laws s limit bytes full are-bytes soft within in
+      let D = decodedPage s soft limit in (
+        ap (λ (x : PageOutcome). x .number) (call .answer ∙ all-yes refusedPage (outcomeOf D)) ∙ answered-number D (back .0) (back .1) (back .2),
+        call .bytes ∙ all-yes (λ n p. old) (dataAfter old D) ∙ answered-data old D (back .0) (back .1) (back .2) ∙ back .4,
+      )

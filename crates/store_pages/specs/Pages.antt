@@ -1,0 +1,48 @@
+-- The answers of the page calls. Assumes nothing.
+use mathlib.Core.List.{List, [], _∷_}
+use mathlib.Core.Path.{_≡_}
+use Prim.Native.Nat.{ℕ}
+use lib.Dec.{eqb, leb}
+use lib.ListN.{length}
+use Rattle.column.specs.Shape.{short}
+use Rattle.trellis.specs.Demand.{Search}
+use Rattle.concatenated.specs.Format.{shortPage}
+use Rattle.concatenated.specs.SoftPage.{softColumns}
+use Rattle.concatenated.specs.Decode.{Decoded, decoded}
+use Rattle.concatenated.specs.Readers.{shortReader}
+use Rattle.concatenated.specs.OuterCode.{shortOuter}
+use Rattle.page.specs.Outcomes.{outcomeOf, dataAfter}
+use Rattle.page.specs.declared.pages.PageOutcome.{PageOutcome}
+use Rattle.questions.specs.Questions.{ask, firstAbove}
+use Rattle.questions.specs.declared.Outcome.{Outcome}
+use Rattle.questions.specs.declared.Outcome.the-variants.{Done, Refused}
+
+-- 1: 150 bytes, 2: 252 places
+abbrev pub encodePageAnswer : List ℕ → List ℕ → Outcome
+encodePageAnswer bytes out =
+    ask (eqb (length bytes) 150) (Refused 1 0)
+    (ask (eqb (length out) 252) (Refused 2 0)
+    Done)
+
+-- a refusal has no steps and no columns
+abbrev pub refusedPage : ℕ → ℕ → PageOutcome
+refusedPage n p = record { number = n; place = p; steps = 0; changed = 0 ∷ 0 ∷ 0 ∷ 0 ∷ []; erased = 0 ∷ 0 ∷ 0 ∷ 0 ∷ [] }
+
+-- page decoding with one of the two searches for every column at every level
+abbrev pub decodedPage : Search → List ℕ → ℕ → Decoded
+decodedPage s soft limit = decoded short shortOuter (shortReader s limit) (softColumns shortPage soft)
+
+-- 1: 1,890 values, 2: 150 places, 4: the limit 1..2,000, 5: each value 0..7; `refusal` gives what a no gives
+abbrev pub askPage : {A : Type 0} → List ℕ → ℕ → List ℕ → (ℕ → ℕ → A) → A → A
+askPage soft limit out refusal next =
+    ask (eqb (length soft) 1890) (refusal 1 0)
+    (ask (eqb (length out) 150) (refusal 2 0)
+    (ask (leb 1 limit) (refusal 4 0)
+    (ask (leb limit 2000) (refusal 4 0)
+    (ask (leb 1890 (firstAbove soft 7)) (refusal 5 (firstAbove soft 7))
+    next))))
+
+-- the answer, 10 with its level included, and the bytes: those of the answer, or the old ones
+pub record PageDecoded (s : Search) (soft : List ℕ) (limit : ℕ) (old : List ℕ) (r : PageOutcome) (new : List ℕ) : Type 0 where
+  pub answer : r ≡ askPage soft limit old refusedPage (outcomeOf (decodedPage s soft limit))
+  pub bytes : new ≡ askPage soft limit old (λ n p. old) (dataAfter old (decodedPage s soft limit))

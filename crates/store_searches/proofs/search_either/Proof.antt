@@ -1,0 +1,116 @@
+-- `store::searches::search_either` meets its contract: each return rewrites with the tests that led there; the masks are those of the search. Assumes nothing.
+use mathlib.Core.Path.{_≡_, sym, _∙_, subst}
+use Prim.Native.Nat.{ℕ, _≤_, _<_}
+use borrow.Author.Tests.{eq-eqb, ne-eqb, le-ltb, lt-ltb, le-leb, lt-leb}
+use Rattle.trellis.specs.Demand.{whole, supercode}
+use Rattle.questions.specs.Questions.{firstAbove}
+use Rattle.store_searches.proofs.Outcomes.{searchable-column}
+use borrow.Author.Needs.{needs}
+use Rattle.store_searches.proofs.search_either.Statement.{statement}
+use Rattle.store_searches.proofs.search_either.Tie as tie
+
+returns : tie.Need-returns
+returns c = simp (ne-eqb _ _ (c .if1 .taken))
+
+returns-2 : tie.Need-returns-2
+returns-2 c = simp (eq-eqb _ _ (c .before .if1 .left), le-ltb _ _ (c .if2 .taken))
+
+returns-3 : tie.Need-returns-3
+returns-3 c = simp (eq-eqb _ _ (c .before .before .if1 .left), lt-ltb _ _ (c .before .if2 .left), lt-leb _ _ (c .if3 .taken))
+
+returns-4 : tie.Need-returns-4
+returns-4 c = simp (eq-eqb _ _ (c .before .before .before .if1 .left), lt-ltb _ _ (c .before .before .if2 .left), le-leb _ _ (c .before .if3 .left), lt-leb _ _ (c .if4 .taken))
+
+first-above-requires : tie.Need-first-above-requires
+first-above-requires c κs = search needs
+
+returns-5 : tie.Need-returns-5
+returns-5 c =
+    let place = c .before .first-above in
+    let asked = c .before .before in
+    let soft = asked .before .before .before .before .before .args .soft .now in
+    let bad : firstAbove soft 7 < 30 = subst (λ (t : ℕ). t < 30) (place .ensures) (c .if5 .taken) in
+    simp (eq-eqb _ _ (asked .before .before .before .if1 .left), lt-ltb _ _ (asked .before .before .if2 .left), le-leb _ _ (asked .before .if3 .left), le-leb _ _ (asked .if4 .left), lt-leb _ _ bad, place .ensures)
+
+left-masks-requires : tie.Need-left-masks-requires
+left-masks-requires c κs = search needs
+
+right-masks-requires : tie.Need-right-masks-requires
+right-masks-requires c κs = search needs
+
+search-by-masks-requires : tie.Need-search-by-masks-requires
+search-by-masks-requires c κs =
+    let rights = c .before .before in
+    let lefts = rights .before in
+    let good = lefts .before .before in
+    let asked = good .before .before in
+    let start = asked .before .before .before .before .before in
+    let soft = start .args .soft .now in
+    let values : 30 ≤ firstAbove soft 7 = subst (λ (t : ℕ). 30 ≤ t) (good .before .first-above .ensures) (good .if5 .left) in (
+      asked .if4 .left,
+      searchable-column supercode (start .args .level) soft (lefts .left-masks .result) (rights .right-masks .result) (asked .before .before .if2 .left) (asked .before .before .before .if1 .left) values (search needs) (search needs)
+          (lefts .left-masks .ensures, rights .right-masks .ensures),
+    )
+
+returns-6 : tie.Need-returns-6
+returns-6 c =
+    let rights = c .before .before .before in
+    let lefts = rights .before in
+    let good = lefts .before .before in
+    let asked = good .before .before in
+    let start = asked .before .before .before .before .before in
+    let soft = start .args .soft .now in
+    let values : 30 ≤ firstAbove soft 7 = subst (λ (t : ℕ). 30 ≤ t) (good .before .first-above .ensures) (good .if5 .left) in
+    let found = c .search-by-masks .ensures supercode (start .args .level) (asked .before .before .if2 .left) (lefts .left-masks .ensures, rights .right-masks .ensures) in
+    simp (lefts .before .if6 .taken, eq-eqb _ _ (asked .before .before .before .if1 .left), lt-ltb _ _ (asked .before .before .if2 .left), le-leb _ _ (asked .before .if3 .left), le-leb _ _ (asked .if4 .left), le-leb _ _ values, found)
+
+level-masks-requires : tie.Need-level-masks-requires
+level-masks-requires c κs = search needs
+
+no-masks-requires : tie.Need-no-masks-requires
+no-masks-requires c κs = search needs
+
+search-by-masks-requires-2 : tie.Need-search-by-masks-requires-2
+search-by-masks-requires-2 c κs =
+    let rights = c .before .before in
+    let lefts = rights .before in
+    let good = lefts .before .before in
+    let asked = good .before .before in
+    let start = asked .before .before .before .before .before in
+    let soft = start .args .soft .now in
+    let values : 30 ≤ firstAbove soft 7 = subst (λ (t : ℕ). 30 ≤ t) (good .before .first-above .ensures) (good .if5 .left) in (
+      asked .if4 .left,
+      searchable-column whole (start .args .level) soft (lefts .level-masks .result) (rights .no-masks .result) (asked .before .before .if2 .left) (asked .before .before .before .if1 .left) values (search needs) (search needs)
+          (lefts .level-masks .ensures, rights .no-masks .ensures),
+    )
+
+returns-7 : tie.Need-returns-7
+returns-7 c =
+    let rights = c .before .before .before in
+    let lefts = rights .before in
+    let good = lefts .before .before in
+    let asked = good .before .before in
+    let start = asked .before .before .before .before .before in
+    let soft = start .args .soft .now in
+    let values : 30 ≤ firstAbove soft 7 = subst (λ (t : ℕ). 30 ≤ t) (good .before .first-above .ensures) (good .if5 .left) in
+    let found = c .search-by-masks2 .ensures whole (start .args .level) (asked .before .before .if2 .left) (lefts .level-masks .ensures, rights .no-masks .ensures) in
+    simp (lefts .before .if6 .left, eq-eqb _ _ (asked .before .before .before .if1 .left), lt-ltb _ _ (asked .before .before .if2 .left), le-leb _ _ (asked .before .if3 .left), le-leb _ _ (asked .if4 .left), le-leb _ _ values, found)
+
+pub search-either-spec : {M : Type 1} → statement M
+search-either-spec =
+    tie.close
+    (tie.spec
+    returns
+    returns-2
+    returns-3
+    returns-4
+    first-above-requires
+    returns-5
+    left-masks-requires
+    right-masks-requires
+    search-by-masks-requires
+    returns-6
+    level-masks-requires
+    no-masks-requires
+    search-by-masks-requires-2
+    returns-7)

@@ -1,0 +1,45 @@
+-- The answers of the column searches. Assumes nothing.
+use mathlib.Core.List.{List}
+use Prim.Native.Nat.{ℕ}
+use lib.Dec.{eqb, ltb, leb}
+use lib.ListN.{length}
+use Rattle.column.specs.Shape.{short}
+use Rattle.paths.specs.Search.{Outcome, answer, spent}
+use Rattle.trellis.specs.Values.{values}
+use Rattle.trellis.specs.Demand.{Search, trellis}
+use Rattle.trellis.specs.Trellis.{searched}
+use Rattle.questions.specs.Questions.{ask, firstAbove}
+use Rattle.store_searches.specs.declared.SearchAnswer.{SearchAnswer}
+use Rattle.store_searches.specs.declared.SearchAnswer.the-variants.{Found, Refused}
+
+-- what the cases are in 01's words: a number, 0 where nothing is refused, a place, the word and the count
+abbrev pub number : SearchAnswer → ℕ
+number (Found w c) = 0
+number (Refused n p) = n
+
+abbrev pub place : SearchAnswer → ℕ
+place (Found w c) = 0
+place (Refused n p) = p
+
+abbrev pub word : SearchAnswer → ℕ
+word (Found w c) = w
+word (Refused n p) = 0
+
+abbrev pub count : SearchAnswer → ℕ
+count (Found w c) = c
+count (Refused n p) = 0
+
+-- 9: "Did a column search end within the limit?"
+unfoldable pub outcomeAnswer : Outcome ℕ → SearchAnswer
+outcomeAnswer (answer w c) = Found w c
+outcomeAnswer (spent c) = Refused 9 0
+
+-- 1: 30 values; 3: the level; 4: the limit 1..2,000; 5: each value 0..7; 9
+abbrev pub searchAnswer : Search → List ℕ → ℕ → ℕ → SearchAnswer
+searchAnswer s soft level limit =
+    ask (eqb (length soft) 30) (Refused 1 0)
+    (ask (ltb level 4) (Refused 3 0)
+    (ask (leb 1 limit) (Refused 4 0)
+    (ask (leb limit 2000) (Refused 4 0)
+    (ask (leb 30 (firstAbove soft 7)) (Refused 5 (firstAbove soft 7))
+    (outcomeAnswer (searched (trellis s short values soft level) limit))))))

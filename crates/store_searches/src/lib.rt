@@ -1,0 +1,89 @@
+// Column searches: 01, "The search".
+ghost use Prim.Native.Nat.{ℕ, _<_, _≤_};
+ghost use mathlib.Core.Path.{_≡_};
+ghost use Rattle.column.specs.Shape.{short};
+ghost use Rattle.trellis.specs.Values.{values};
+ghost use Rattle.trellis.specs.Demand.{Search, whole, supercode, trellis};
+ghost use Rattle.trellis.specs.Trellis.{searched};
+ghost use Rattle.search.specs.Outcomes.{Searchable30, MasksFor};
+ghost use Rattle.readings.specs.Steps.{searchOf};
+ghost use Rattle.store_searches.specs.Searches.{searchAnswer, outcomeAnswer};
+use search::Outcome;
+
+// What a column search answers: the word and the count. `number`, `place`, `word` and `count` of specs/Searches.antt are 01's words for its cases.
+pub enum SearchAnswer {
+    Found(u64, u64),
+    Refused(u64, u64),
+}
+
+// The search with masks that are lent, over arrays of its own.
+fn search_by_masks(soft: &[u8], left: &[u64; 30], right: &[u64; 30], limit: u64) -> SearchAnswer
+    requires { ⌜ limit ≤ 2000 ⌝ }
+    requires { ⌜ Searchable30 (now soft) (now left) (now right) ⌝ }
+    ensures { λ r. ⌜ ((s : Search) (i : ℕ) → i < 4 → MasksFor s i (now (left .entry)) (now (right .entry))
+        → r ≡ outcomeAnswer (searched (trellis s short values (now (soft .entry)) i) limit)) ⌝ }
+{
+    let mut sums = [0i16; 2002];
+    let mut lens = [0u8; 2002];
+    let mut bits = [0u64; 2002];
+    let table = search::short_page::values();
+    let found = search::short_page::search_column(
+        &mut sums,
+        &mut lens,
+        &mut bits,
+        soft,
+        left,
+        right,
+        &table,
+        limit,
+    );
+    match found {
+        Outcome::Found { word, count } => SearchAnswer::Found(word, count),
+        Outcome::Spent => SearchAnswer::Refused(9, 0),
+    }
+}
+
+// Either search: the questions in their order, then the search by the masks of its trellis.
+fn search_either(soft: &[u8], level: u64, limit: u64, in_supercodes: bool) -> SearchAnswer
+    ensures { λ r. ⌜ r ≡ searchAnswer (searchOf in_supercodes) (now (soft .entry)) level limit ⌝ }
+{
+    if soft.len() != 30 {
+        return SearchAnswer::Refused(1, 0);
+    }
+    if 4 <= level {
+        return SearchAnswer::Refused(3, 0);
+    }
+    if limit < 1 {
+        return SearchAnswer::Refused(4, 0);
+    }
+    if 2000 < limit {
+        return SearchAnswer::Refused(4, 0);
+    }
+    let bad = questions::first_above(soft, 7);
+    if bad < 30 {
+        return SearchAnswer::Refused(5, bad as u64);
+    }
+    let i = level as usize;
+    if in_supercodes {
+        let left = column::masks::left_masks(i);
+        let right = column::masks::right_masks(i);
+        return search_by_masks(soft, &left, &right, limit);
+    }
+    let left = column::masks::level_masks(i);
+    let right = column::masks::no_masks();
+    search_by_masks(soft, &left, &right, limit)
+}
+
+// The whole search of a column: the word and the count. Refused by 1, 3, 4, 5 and 9.
+pub fn search_whole(soft: &[u8], level: u64, limit: u64) -> SearchAnswer
+    ensures { λ r. ⌜ r ≡ searchAnswer whole (now (soft .entry)) level limit ⌝ }
+{
+    search_either(soft, level, limit, false)
+}
+
+// The supercode search of a column: the word and the count. Refused by 1, 3, 4, 5 and 9.
+pub fn search_supercode(soft: &[u8], level: u64, limit: u64) -> SearchAnswer
+    ensures { λ r. ⌜ r ≡ searchAnswer supercode (now (soft .entry)) level limit ⌝ }
+{
+    search_either(soft, level, limit, true)
+}
