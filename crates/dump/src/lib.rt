@@ -1,5 +1,5 @@
 // The dump of a soft page: 01, "The dump". A byte of a block is a soft value, a fixed or zero byte, or one of the two of the check. Writing goes byte by byte, by
-// `holds_value` and `fixed_byte`; reading takes a block's values in one piece, by `values_of`. Lengths and block numbers are asked of the caller; the crate `store`
+// `holds_value` and `fixed_byte`; reading takes a block's values in one piece, by `values_of`. Lengths and block numbers are asked of the caller; the crate `store_dumps`
 // has the calls that test them.
 ghost use mathlib.Core.Path.{_≡_};
 ghost use Prim.Native.Nat.{_+_, _<_, _≤_};

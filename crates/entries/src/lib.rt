@@ -1,4 +1,4 @@
-// Test entries for C, thin over the public calls: what tests/run-vectors calls. Each answers with number, place and value, as store's specs/Answer.antt gives them.
+// Test entries for C, thin over the public calls: what tests/run-vectors calls. Each answers with number, place and value, as questions' specs/Answer.antt gives them.
 ghost use mathlib.Core.Path.{_≡_};
 ghost use Rattle.store_columns.specs.Columns.{encodeAnswer, levelWordAnswer, reimageAnswer};
 ghost use Rattle.trellis.specs.Demand.{whole, supercode};
