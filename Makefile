@@ -1,16 +1,22 @@
 # make test: everything that is tested and proved, from nothing. make run: proves and builds readpage, then decodes a worn page.
 .PHONY: test run tools listed
 
+# Proves the named crates and what they rest on, with a line of progress for each crate.
+define prove
+@mkdir -p target
+@{ RT_JOBS=4 rt check $(1) 2>&1; echo $$? > target/prove.status; } | tee target/prove.log | grep --line-buffered '^rt: [a-z0-9_]* proved'; \
+[ "$$(cat target/prove.status)" = 0 ] || { cat target/prove.log; exit 1; }
+endef
+
 test: tools listed
+	$(call prove,store_columns store_searches store_rows store_pages store_dumps listing)
 	@tests/run-vectors tests/vectors tests/libfec tests/known
 	@tests/run-station
 	@tests/run-readpage
 	@RT_JOBS=4 rt ci
 
 run: tools
-	@mkdir -p target
-	@{ rt check readpage 2>&1; echo $$? > target/run.status; } | tee target/run.log | grep --line-buffered '^rt: [a-z0-9]* proved'; \
-	[ "$$(cat target/run.status)" = 0 ] || { cat target/run.log; exit 1; }
+	$(call prove,readpage)
 	@target/bin/readpage < samples/worn.dump
 
 # what the two commands need on the machine

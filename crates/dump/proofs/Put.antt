@@ -1,11 +1,16 @@
--- A loop that writes a list part by part over a buffer. Assumes nothing.
+-- What a copy leaves, and a loop that writes a list part by part over a buffer. Assumes nothing.
 use mathlib.Core.Path.{_≡_, ap, ap₂, _∙_, sym}
-use mathlib.Core.List.{List, _++_, append-assoc}
+use mathlib.Core.List.{List, _++_, append-assoc, append-nil}
 use Prim.Native.Nat.{ℕ, _+_, _-_, _≤_}
 use native.Mathlib.Omega.{arith}
 use lib.ListN.{length, take, drop, length-append, length-drop}
-use lib.Seq.{take-add, take-at, length-take-le}
+use lib.Seq.{take-add, take-at, take-all, drop-length, length-take-le}
 use borrow.Rule.Slice.PartMut.{putMid, same-len-mid, mid-len}
+
+-- a list copied into a buffer of its length
+pub all-copied : (made old : List ℕ) → length made ≡ length old → take (length made) made ++ drop (length made) old ≡ made
+all-copied made old e =
+    ap₂ (λ (x y : List ℕ). x ++ y) (take-all (length made) made (omega arith)) (ap (λ (k : ℕ). drop k old) e ∙ drop-length old) ∙ append-nil made
 
 -- the n values y of t from its a-th on are written over s, whose first a values are those of t
 module _ (s t y : List ℕ) (a n : ℕ) (room : a + n ≤ length s) (long : a + n ≤ length t) (part : y ≡ take n (drop a t)) where

@@ -160,18 +160,6 @@ pub fn check_right(block: &[u8]) -> bool
     high * 256 + low == check_of(block) as u32
 }
 
-// Copies `values` into `out`, which is as long.
-fn copy(values: &[u8], out: &mut [u8])
-    requires { ⌜ length (now values) ≡ length (now out) ⌝ }
-    ensures { λ _. ⌜ now (out .exit) ≡ now (values .entry) ⌝ }
-{
-    let mut i = 0;
-    while i < out.len() {
-        out[i] = values[i];
-        i += 1;
-    }
-}
-
 // Reads the soft values of a dump, block by block.
 pub fn read(dump: &[u8], out: &mut [u8])
     requires { ⌜ (length (now dump) ≡ 2048) × (length (now out) ≡ 1890) ⌝ }
@@ -184,7 +172,7 @@ pub fn read(dump: &[u8], out: &mut [u8])
         let end = start + n;
         let at = b * 480;
         let to = at + n;
-        copy(&dump[start..end], &mut out[at..to]);
+        bytes::copy(&dump[start..end], &mut out[at..to]);
         b += 1;
     }
 }

@@ -1,13 +1,11 @@
 -- The page decoding entry at its returns: what was asked and done settles what it returns and leaves. Assumes nothing.
 use mathlib.Core.Bool.{Bool, true}
-use mathlib.Core.List.{List, _++_, append-nil}
-use mathlib.Core.Path.{_≡_, sym, ap, ap₂, _∙_, subst⁻¹}
+use mathlib.Core.List.{List}
+use mathlib.Core.Path.{_≡_, sym, ap, _∙_, subst⁻¹}
 use Prim.Native.Nat.{ℕ}
-use native.Mathlib.Omega.{arith}
 use borrow.Author.Tests.{eq-eqb, ne-eqb}
 use lib.Dec.{eqb}
-use lib.ListN.{length, take, drop}
-use lib.Seq.{take-all, drop-length}
+use lib.ListN.{length}
 use Rattle.trellis.specs.Demand.{supercode}
 use Rattle.page.specs.declared.pages.PageOutcome.{PageOutcome}
 use Rattle.questions.specs.Questions.{ask}
@@ -56,8 +54,3 @@ module _ (soft bytes report : List ℕ) where
 
       pub answered : {r : ℕ} → o .number ≡ 0 → r ≡ returned (o .number) (o .place) → (newReport : List ℕ) → newReport ≡ reportOf o → PageReturned soft bytes report r new newReport
       answered done e newReport is = decoded e newReport (simp (eq-eqb _ _ done) is)
-
--- what a copy of the report's bytes leaves in a buffer of their length
-pub all-copied : (made old : List ℕ) → length made ≡ length old → take (length made) made ++ drop (length made) old ≡ made
-all-copied made old e =
-    ap₂ (λ (x y : List ℕ). x ++ y) (take-all (length made) made (omega arith)) (ap (λ (k : ℕ). drop k old) e ∙ drop-length old) ∙ append-nil made

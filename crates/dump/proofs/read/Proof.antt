@@ -8,7 +8,7 @@ use lib.Seq.{take-all}
 use Rattle.dump.specs.Dump.{softOf}
 use Rattle.dump.specs.Parts.{valuesOf}
 use Rattle.dump.proofs.Blocks.{soft-length, values-of-block}
-use Rattle.dump.proofs.Put.{put-more, put-length}
+use Rattle.dump.proofs.Put.{all-copied, put-more, put-length}
 use Rattle.dump.proofs.read.Statement.{statement}
 use Rattle.dump.proofs.read.Tie as tie
 
@@ -84,7 +84,7 @@ loop-again c =
     let made = c .before .before .copy in
     let size : b * 512 + 16 + n - (b * 512 + 16) ≡ n = omega arith in
     let part : made .last .1 .0 ≡ take n (drop (b * 480) (softOf dump)) =
-    made .ensures ∙ ap (λ (m : ℕ). take m (drop (b * 512 + 16) dump)) size ∙ values-of-block dump b n (omega arith) (omega arith) (omega arith) in
+    made .ensures .1 ∙ all-copied _ _ (search needs) ∙ ap (λ (m : ℕ). take m (drop (b * 512 + 16) dump)) size ∙ values-of-block dump b n (omega arith) (omega arith) (omega arith) in
     let room : b * 480 + n ≤ length out = omega arith in
     let long : b * 480 + n ≤ length (softOf dump) = omega (arith, soft-length dump) in
     let now-at : values-before b ≡ b * 480 = omega arith in

@@ -1,7 +1,8 @@
 -- `station::station_decode_page` meets its contract: each return by what was asked on the way to it. Assumes nothing.
 use mathlib.Core.Path.{_≡_, sym, ap, _∙_}
 use lib.ListN.{length}
-use Rattle.station.proofs.PageReturns.{refused-by-soft-length, refused-by-report-length, small, refused, answered, all-copied}
+use Rattle.dump.proofs.Put.{all-copied}
+use Rattle.station.proofs.PageReturns.{refused-by-soft-length, refused-by-report-length, small, refused, answered}
 use native.Mathlib.Omega.{arith}
 use borrow.Author.Needs.{needs}
 use Rattle.station.proofs.station_decode_page.Statement.{statement}
