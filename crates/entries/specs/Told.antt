@@ -9,7 +9,7 @@ use Prim.Native.Nat.{ℕ}
 use Rattle.questions.specs.declared.Outcome.{Outcome}
 use Rattle.questions.specs.Outcome as outcomes
 use Rattle.trellis.specs.Demand.{Search}
-use Rattle.page.specs.declared.pages.PageOutcome.{PageOutcome}
+use Rattle.page.specs.declared.PageOutcome.{PageOutcome}
 use Rattle.store_pages.specs.Pages.{PageDecoded}
 use Rattle.entries.specs.declared.PageReply.{PageReply}
 use Rattle.entries.specs.declared.Reply.{Reply}

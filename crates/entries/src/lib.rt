@@ -12,7 +12,7 @@ ghost use Rattle.concatenated.specs.Format.{shortPage};
 ghost use Rattle.concatenated.specs.Written.{writtenPage};
 ghost use Rattle.concatenated.specs.OuterCode.{shortEncoder};
 ghost use Rattle.store_pages.specs.Pages.{encodePageAnswer};
-use page::pages::PageOutcome;
+use page::PageOutcome;
 use questions::Answer;
 use questions::Outcome;
 use store_searches::SearchAnswer;

@@ -1,4 +1,2 @@
-pub mod LevelSteps
-pub mod LevelRuns
 pub mod RowEncoding
 pub mod PageOutcomes

@@ -16,16 +16,16 @@ use Rattle.concatenated.specs.Written.{rowsData, bytesOfRows}
 use Rattle.concatenated.specs.Flags.{flag, isOne}
 use Rattle.concatenated.specs.Arrays.{SoftColumns, Rows, FourSets}
 use Rattle.concatenated.specs.OuterCode.{shortOuter}
-use Rattle.page.specs.Levels.{changedFlags, erasedFlags, Ends, ColumnsDone}
+use Rattle.levels.specs.Levels.{changedFlags, erasedFlags, Ends, ColumnsDone}
 use Rattle.page.specs.Outcomes.{outcomeOf, dataAfter}
-use Rattle.page.specs.declared.levels.ColumnsOutcome.{ColumnsOutcome}
-use Rattle.page.specs.declared.levels.ColumnsOutcome.the-variants.{Answered, Refused}
-use Rattle.page.specs.declared.pages.PageOutcome.{PageOutcome}
+use Rattle.levels.specs.declared.ColumnsOutcome.{ColumnsOutcome}
+use Rattle.levels.specs.declared.ColumnsOutcome.the-variants.{Answered, Refused}
+use Rattle.page.specs.declared.PageOutcome.{PageOutcome}
 use Rattle.concatenated.proofs.Lists.{all-append, all-of-append}
 use Rattle.concatenated.proofs.SoftPages.{as-many-columns, columns-are-soft}
 use Rattle.concatenated.proofs.Short.{short-page-numbers}
 use Rattle.concatenated.proofs.OuterJoint.{flags-back}
-use Rattle.page.proofs.LevelSteps.{all-small}
+use Rattle.levels.proofs.LevelSteps.{all-small}
 
 -- the columns of a soft page, as the code asks for them
 pub soft-columns : (soft : List ℕ) (columns : List (List ℕ)) → length soft ≡ 1890 → Soft soft → columns ≡ softColumns shortPage soft → SoftColumns columns

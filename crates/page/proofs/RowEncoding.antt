@@ -20,7 +20,7 @@ use Rattle.concatenated.proofs.RowData.{row-data-length, row-data-in-range}
 use Rattle.concatenated.proofs.Short.{short-page-numbers}
 use Rattle.concatenated.proofs.DataGroups.{at-most-30-roots}
 use Rattle.concatenated.proofs.OuterJoint.{outer-laws}
-use Rattle.page.proofs.LevelRuns.{held-rows}
+use Rattle.levels.proofs.LevelRuns.{held-rows}
 
 module _ (bytes : List ℕ) where
   all-symbols : length (dataSymbols shortPage bytes) ≡ dataBefore shortPage 4

@@ -1,7 +1,7 @@
 -- The outcome of page decoding as the code gives it, and the data after it. Assumes nothing.
 use mathlib.Core.List.{List, [], _∷_, map}
 use Prim.Native.Nat.{ℕ}
-use Rattle.page.specs.declared.pages.PageOutcome.{PageOutcome}
+use Rattle.page.specs.declared.PageOutcome.{PageOutcome}
 use Rattle.concatenated.specs.Lists.{total}
 use Rattle.concatenated.specs.Format.{shortPage}
 use Rattle.concatenated.specs.Decode.{Level, rows, Decoded, answered, refused}

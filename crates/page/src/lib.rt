@@ -1,4 +1,108 @@
-// Pages: 01, "Rows and page". A page is written from 150 bytes of data (`pages::encode_page`), and a soft page is decoded to them (`pages::decode_page`).
+// Pages: 01, "Rows and page". A page is written from 150 bytes of data (`encode_page`), and a soft page is decoded to them (`decode_page`).
 // What they give is defined in concatenated's specs/Written.antt and specs/Decode.antt, and in specs/Outcomes.antt.
-mod levels;
-pub mod pages;
+ghost use mathlib.Core.Path.{_≡_};
+ghost use Prim.Native.Nat.{_<_, _≤_};
+ghost use lib.ListN.{length};
+ghost use Rattle.column.specs.Shape.{short};
+ghost use Rattle.concatenated.specs.Format.{shortPage};
+ghost use Rattle.concatenated.specs.SoftPage.{Soft, softColumns};
+ghost use Rattle.concatenated.specs.Decode.{decoded};
+ghost use Rattle.concatenated.specs.Readers.{shortReader};
+ghost use Rattle.concatenated.specs.Written.{writtenPage, writtenRows};
+ghost use Rattle.readings.specs.Steps.{searchOf};
+ghost use Rattle.concatenated.specs.OuterCode.{shortOuter, shortEncoder};
+ghost use Rattle.page.specs.Outcomes.{outcomeOf, dataAfter};
+use coding::data;
+use coding::writing;
+use levels::ColumnsOutcome;
+use readings::look;
+use readings::totals;
+
+// What page decoding gives: number 0 with the steps and how many columns each level changed and erased; or number 10 with the level as the place.
+pub struct PageOutcome {
+    pub number: u64,
+    pub place: u64,
+    pub steps: u64,
+    pub changed: [u8; 4],
+    pub erased: [u8; 4],
+}
+
+// The rows of the data: each is the codeword with its part of the data in front.
+fn encode_rows(data: &[u8], rows: &mut [[u8; 63]; 4])
+    requires { ⌜ (length (now «data») ≡ 150) × (length (now rows) ≡ 4) ⌝ }
+    ensures { λ r. ⌜ now (rows .exit) ≡ writtenRows shortPage shortEncoder (now («data» .entry)) ⌝ }
+{
+    let mut symbols = [0u8; 200];
+    data::symbols_of(data, &mut symbols);
+    let mut at: usize = 0;
+    let mut level: usize = 0;
+    while level < 4 {
+        let t = data::roots(level);
+        let end = at + (63 - t);
+        let mut row = [0u8; 63];
+        outer::encode(&symbols[at..end], t, &mut row);
+        rows[level] = row;
+        at = end;
+        level += 1;
+    }
+}
+
+// The written page of the data.
+pub fn encode_page(data: &[u8], out: &mut [u8])
+    requires { ⌜ (length (now «data») ≡ 150) × (length (now out) ≡ 252) ⌝ }
+    ensures { λ r. ⌜ now (out .exit) ≡ writtenPage shortPage shortEncoder (now («data» .entry)) ⌝ }
+{
+    let mut rows = [[0u8; 63]; 4];
+    encode_rows(data, &mut rows);
+    writing::write_columns(&rows, out);
+}
+
+// The outcome of a soft page, by the whole or the supercode search of each column; the data are written last, and only if there is an answer.
+pub fn decode_page(soft: &[u8], limit: u64, in_supercodes: bool, data: &mut [u8]) -> PageOutcome
+    requires { ⌜ (length (now soft) ≡ 1890) × Soft (now soft) × (limit ≤ 2000) × (length (now «data») ≡ 150) ⌝ }
+    ensures { λ r. ⌜ r ≡ outcomeOf (decoded short shortOuter (shortReader (searchOf in_supercodes) limit) (softColumns shortPage (now (soft .entry)))) ⌝ }
+    ensures { λ r. ⌜ now («data» .exit) ≡ dataAfter (now («data» .entry)) (decoded short shortOuter (shortReader (searchOf in_supercodes) limit) (softColumns shortPage (now (soft .entry)))) ⌝ }
+{
+    let mut work = [[0u8; 30]; 63];
+    look::load(soft, &mut work);
+    let table = search::short_page::values();
+    let mut sums = [0i16; 2002];
+    let mut lens = [0u8; 2002];
+    let mut bits = [0u64; 2002];
+    let mut held = [[0u8; 63]; 4];
+    let mut changes = [[0u8; 63]; 4];
+    let mut erased = [[0u8; 63]; 4];
+    let outcome = levels::decode_columns(
+        &mut work,
+        limit,
+        in_supercodes,
+        &table,
+        &mut sums,
+        &mut lens,
+        &mut bits,
+        &mut held,
+        &mut changes,
+        &mut erased,
+    );
+    match outcome {
+        ColumnsOutcome::Answered(steps) => {
+            let mut symbols = [0u8; 200];
+            data::rows_data(&held, &mut symbols);
+            data::bytes_of(&symbols, data);
+            PageOutcome {
+                number: 0,
+                place: 0,
+                steps: steps,
+                changed: totals::totals(&changes),
+                erased: totals::totals(&erased),
+            }
+        }
+        ColumnsOutcome::Refused(level) => PageOutcome {
+            number: 10,
+            place: level,
+            steps: 0,
+            changed: [0; 4],
+            erased: [0; 4],
+        },
+    }
+}

@@ -10,7 +10,7 @@ use lib.ListN.{length}
 use Rattle.trellis.specs.Demand.{Search}
 use Rattle.concatenated.specs.Decode.{Decoded, answered, refused}
 use Rattle.page.specs.Outcomes.{outcomeOf, dataAfter}
-use Rattle.page.specs.declared.pages.PageOutcome.{PageOutcome}
+use Rattle.page.specs.declared.PageOutcome.{PageOutcome}
 use Rattle.questions.specs.Questions.{firstAbove}
 use Rattle.store_pages.specs.Pages.{decodedPage, PageDecoded}
 use Rattle.listing.specs.Lines.{refusedLine, pageText}

@@ -14,7 +14,7 @@ use Rattle.trellis.specs.Demand.{Search}
 use Rattle.concatenated.specs.Outer.{RowAnswer, row, none, RowDecoder}
 use Rattle.concatenated.specs.Decode.{Reader, Reading, Level, State, going, stopped, refused, decodedRow, settle, onward, run, outcome, decoded}
 use Rattle.page.specs.Outcomes.{outcomeOf}
-use Rattle.page.specs.declared.pages.PageOutcome.{PageOutcome}
+use Rattle.page.specs.declared.PageOutcome.{PageOutcome}
 use Rattle.questions.specs.Questions.{ask, firstAbove}
 use Rattle.questions.specs.Outcome.{number, place}
 use Rattle.store_pages.specs.Pages.{encodePageAnswer, refusedPage, askPage, decodedPage}

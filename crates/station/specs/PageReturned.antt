@@ -7,7 +7,7 @@ use lib.Dec.{eqb}
 use lib.ListN.{length}
 use Rattle.trellis.specs.Demand.{supercode}
 use Rattle.page.specs.Outcomes.{outcomeOf, dataAfter}
-use Rattle.page.specs.declared.pages.PageOutcome.{PageOutcome}
+use Rattle.page.specs.declared.PageOutcome.{PageOutcome}
 use Rattle.questions.specs.Questions.{ask}
 use Rattle.store_pages.specs.Pages.{refusedPage, askPage, decodedPage}
 use Rattle.station.specs.Returned.{returned}

@@ -12,7 +12,7 @@ ghost use Rattle.questions.specs.Outcome.{number, place};
 ghost use Rattle.station.specs.Returned.{returned, Returned};
 ghost use Rattle.station.specs.Report.{reportOf};
 ghost use Rattle.station.specs.PageReturned.{PageReturned};
-use page::pages::PageOutcome;
+use page::PageOutcome;
 use questions::Outcome;
 
 // A number and a place as one number.

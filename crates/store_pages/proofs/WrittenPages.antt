@@ -14,7 +14,7 @@ use Rattle.concatenated.specs.Misread.{WithinReach}
 use Rattle.concatenated.specs.Readers.{shortReader}
 use Rattle.concatenated.specs.OuterCode.{shortOuter, shortEncoder, ShortCodeword}
 use Rattle.page.specs.Outcomes.{outcomeOf, dataAfter}
-use Rattle.page.specs.declared.pages.PageOutcome.{PageOutcome}
+use Rattle.page.specs.declared.PageOutcome.{PageOutcome}
 use Rattle.concatenated.proofs.Digits.{Below}
 use Rattle.concatenated.proofs.OuterJoint.{outer-laws}
 use Rattle.concatenated.proofs.Short.{written-page-comes-back}

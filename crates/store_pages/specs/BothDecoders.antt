@@ -1,7 +1,7 @@
 -- Demand 3 for pages, of the two calls: what `decode_page` and `decode_page_whole` have in common. Assumes nothing.
 use mathlib.Core.Path.{_≡_}
 use Prim.Native.Nat.{ℕ, _+_}
-use Rattle.page.specs.declared.pages.PageOutcome.{PageOutcome}
+use Rattle.page.specs.declared.PageOutcome.{PageOutcome}
 
 -- the same number, place and totals; and, for an answered page, the step sum of the first is larger by exactly `dead`
 pub record SameButSteps (dead : ℕ) (supercode whole : PageOutcome) : Type 0 where

@@ -12,7 +12,7 @@ use Rattle.concatenated.specs.Decode.{Decoded, decoded}
 use Rattle.concatenated.specs.Readers.{shortReader}
 use Rattle.concatenated.specs.OuterCode.{shortOuter}
 use Rattle.page.specs.Outcomes.{outcomeOf, dataAfter}
-use Rattle.page.specs.declared.pages.PageOutcome.{PageOutcome}
+use Rattle.page.specs.declared.PageOutcome.{PageOutcome}
 use Rattle.questions.specs.Questions.{ask, firstAbove}
 use Rattle.questions.specs.declared.Outcome.{Outcome}
 use Rattle.questions.specs.declared.Outcome.the-variants.{Done, Refused}

@@ -11,7 +11,7 @@ ghost use Rattle.concatenated.specs.OuterCode.{shortEncoder};
 ghost use Rattle.readings.specs.Steps.{searchOf};
 ghost use Rattle.questions.specs.Outcome.{Filled};
 ghost use Rattle.store_pages.specs.Pages.{encodePageAnswer, refusedPage, PageDecoded};
-use page::pages::PageOutcome;
+use page::PageOutcome;
 use questions::Outcome;
 
 // The written page of 150 bytes of data. Refused by 1 and 2; `out` is then as it was.
@@ -24,7 +24,7 @@ pub fn encode_page(data: &[u8], out: &mut [u8]) -> Outcome
     if out.len() != 252 {
         return Outcome::Refused(2, 0);
     }
-    page::pages::encode_page(data, out);
+    page::encode_page(data, out);
     Outcome::Done
 }
 
@@ -61,7 +61,7 @@ fn decode_either(soft: &[u8], limit: u64, in_supercodes: bool, data: &mut [u8]) 
     if bad < 1890 {
         return refused(5, bad as u64);
     }
-    page::pages::decode_page(soft, limit, in_supercodes, data)
+    page::decode_page(soft, limit, in_supercodes, data)
 }
 
 // The data of a soft page, by the supercode search of every column with the given limit. Refused by 1, 2, 4, 5 and 10, whose place is the level; `data` is then as it was.

@@ -24,8 +24,8 @@ use Rattle.concatenated.specs.Flags.{flag, isOne}
 use Rattle.concatenated.specs.Arrays.{SoftColumns}
 use Rattle.readings.specs.Steps.{RowRead}
 use Rattle.concatenated.specs.OuterCode.{asRow, shortOuter, RowWord}
-use Rattle.page.specs.Levels.{Ended}
-use Rattle.page.specs.declared.levels.LevelOut.{LevelOut}
+use Rattle.levels.specs.Levels.{Ended}
+use Rattle.levels.specs.declared.LevelOut.{LevelOut}
 use Rattle.concatenated.proofs.Lists.{all-at}
 use Rattle.concatenated.proofs.Columns.{row-off-length, row-off-all}
 use Rattle.concatenated.proofs.TakingOff.{off-length, column-stays-soft}

@@ -1,4 +1,4 @@
--- `page::pages::decode_page` meets its contract: by the two cases of what the levels gave. Assumes nothing.
+-- `page::decode_page` meets its contract: by the two cases of what the levels gave. Assumes nothing.
 use mathlib.Core.Path.{refl, sym, ap, _∙_}
 use Prim.Native.Nat.{ℕ, _-_}
 use mathlib.Core.List.{List}
@@ -10,8 +10,8 @@ use Rattle.concatenated.specs.OuterCode.{shortOuter}
 use Rattle.page.specs.Outcomes.{outcomeOf, dataAfter}
 use Rattle.page.proofs.PageOutcomes.{soft-columns, is-answered, is-refused, rows-data-is-200, rows-data-small, answered-outcome, answered-data}
 use borrow.Author.Needs.{needs}
-use Rattle.page.proofs.pages.decode_page.Statement.{statement}
-use Rattle.page.proofs.pages.decode_page.Tie as tie
+use Rattle.page.proofs.decode_page.Statement.{statement}
+use Rattle.page.proofs.decode_page.Tie as tie
 
 load-requires : tie.Need-load-requires
 load-requires c κs = search needs

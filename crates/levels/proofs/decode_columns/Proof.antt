@@ -3,10 +3,10 @@ use Prim.Native.Nat.{_-_}
 use Rattle.stack.specs.Places.{Room}
 use Rattle.concatenated.specs.Readers.{shortReader}
 use Rattle.readings.specs.Steps.{searchOf}
-use Rattle.page.proofs.LevelRuns.{not-so, so, Decoding, decoding-none, decoding-more, decoding-refused, decoding-answered}
+use Rattle.levels.proofs.LevelRuns.{not-so, so, Decoding, decoding-none, decoding-more, decoding-refused, decoding-answered}
 use borrow.Author.Needs.{needs}
-use Rattle.page.proofs.levels.decode_columns.Statement.{statement}
-use Rattle.page.proofs.levels.decode_columns.Tie as tie
+use Rattle.levels.proofs.decode_columns.Statement.{statement}
+use Rattle.levels.proofs.decode_columns.Tie as tie
 
 abbrev Inv-loop : tie.InvT-loop
 Inv-loop work₀ limit in-supercodes table sums₀ lens₀ bits₀ held₀ changes₀ erased₀ sum₀ level₀ work sums lens bits held changes erased sum level = Decoding (shortReader (searchOf in-supercodes) limit) work₀ work held changes erased sum level × Room sums lens bits

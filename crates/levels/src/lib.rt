@@ -8,13 +8,13 @@ ghost use Rattle.stack.specs.Places.{Room};
 ghost use Rattle.concatenated.specs.Readers.{shortReader};
 ghost use Rattle.concatenated.specs.Arrays.{SoftColumns};
 ghost use Rattle.readings.specs.Steps.{searchOf};
-ghost use Rattle.page.specs.Levels.{LevelDone, ColumnsDone};
+ghost use Rattle.levels.specs.Levels.{LevelDone, ColumnsDone};
 use coding::data;
 use readings::reading;
 use readings::rows;
 
 // What a level gives: its row, the flags of its changed and erased columns, its steps; or no word was in reach.
-pub(crate) struct LevelOut {
+pub struct LevelOut {
     row: [u8; 63],
     changed: [u8; 63],
     erased: [u8; 63],
@@ -23,7 +23,7 @@ pub(crate) struct LevelOut {
 }
 
 // The steps of all levels, or the level that was refused.
-pub(crate) enum ColumnsOutcome {
+pub enum ColumnsOutcome {
     Answered(u64),
     Refused(u64),
 }
@@ -80,7 +80,7 @@ fn decode_level(
 }
 
 // The levels of a page, on its columns; what the arrays hold after a refusal is not told.
-pub(crate) fn decode_columns(
+pub fn decode_columns(
     work: &mut [[u8; 30]; 63],
     limit: u64,
     in_supercodes: bool,

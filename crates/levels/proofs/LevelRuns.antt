@@ -17,9 +17,9 @@ use Rattle.concatenated.specs.Decode.{Reader, symbol, symbols, mark, marks, cha
 use Rattle.concatenated.specs.Flags.{flag}
 use Rattle.concatenated.specs.Arrays.{SoftColumns, Rows}
 use Rattle.concatenated.specs.OuterCode.{shortOuter, RowWord}
-use Rattle.page.specs.Levels.{Ended, LevelDone, changedFlags, erasedFlags, Ends, ColumnsDone}
-use Rattle.page.specs.declared.levels.LevelOut.{LevelOut}
-use Rattle.page.specs.declared.levels.ColumnsOutcome.the-variants.{Answered, Refused}
+use Rattle.levels.specs.Levels.{Ended, LevelDone, changedFlags, erasedFlags, Ends, ColumnsDone}
+use Rattle.levels.specs.declared.LevelOut.{LevelOut}
+use Rattle.levels.specs.declared.ColumnsOutcome.the-variants.{Answered, Refused}
 use Rattle.concatenated.proofs.Lists.{map-append}
 use Rattle.concatenated.proofs.Entries.{changed-length}
 use Rattle.concatenated.proofs.OuterJoint.{outer-laws}

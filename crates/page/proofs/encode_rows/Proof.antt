@@ -1,4 +1,4 @@
--- `page::pages::encode_rows` meets its contract: the rows below the level are written, and the next data symbols begin behind theirs. Assumes nothing.
+-- `page::encode_rows` meets its contract: the rows below the level are written, and the next data symbols begin behind theirs. Assumes nothing.
 use mathlib.Core.Path.{_≡_, refl, ap, _∙_, subst, subst⁻¹}
 use Prim.Native.Nat.{_-_}
 use Rattle.concatenated.proofs.Filling.{Front, front-none, front-more, front-all}
@@ -14,8 +14,8 @@ use Rattle.concatenated.proofs.OuterJoint.{roots-of-rows}
 use Rattle.page.proofs.RowEncoding.{four-rows, part-and-roots, part-small, row-written, next-place}
 use native.Mathlib.Omega.{arith}
 use borrow.Author.Needs.{needs}
-use Rattle.page.proofs.pages.encode_rows.Statement.{statement}
-use Rattle.page.proofs.pages.encode_rows.Tie as tie
+use Rattle.page.proofs.encode_rows.Statement.{statement}
+use Rattle.page.proofs.encode_rows.Tie as tie
 
 abbrev Inv-loop : tie.InvT-loop
 Inv-loop «data» rows₀ symbols at₀ level₀ rows at level = Front (writtenRows shortPage shortEncoder «data») rows 4 level × (at ≡ dataBefore shortPage level)

@@ -1,4 +1,4 @@
--- `page::pages::encode_page` meets its contract: the rows are those of the data, and so are their bytes. Assumes nothing.
+-- `page::encode_page` meets its contract: the rows are those of the data, and so are their bytes. Assumes nothing.
 use mathlib.Core.Path.{ap, _∙_, subst, subst⁻¹}
 use Prim.Native.Nat.{_-_}
 use Rattle.concatenated.specs.Format.{shortPage}
@@ -6,8 +6,8 @@ use Rattle.concatenated.specs.Arrays.{Rows}
 use Rattle.concatenated.specs.Written.{pageInBytes, writtenPage}
 use Rattle.page.proofs.RowEncoding.{written-rows-are-rows}
 use borrow.Author.Needs.{needs}
-use Rattle.page.proofs.pages.encode_page.Statement.{statement}
-use Rattle.page.proofs.pages.encode_page.Tie as tie
+use Rattle.page.proofs.encode_page.Statement.{statement}
+use Rattle.page.proofs.encode_page.Tie as tie
 
 encode-rows-requires : tie.Need-encode-rows-requires
 encode-rows-requires c κs = search needs

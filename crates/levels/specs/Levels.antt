@@ -4,9 +4,9 @@ use mathlib.Core.List.{List, map}
 use mathlib.Core.Path.{_≡_}
 use Prim.Native.Nat.{ℕ}
 use Rattle.column.specs.Shape.{short}
-use Rattle.page.specs.declared.levels.LevelOut.{LevelOut}
-use Rattle.page.specs.declared.levels.ColumnsOutcome.{ColumnsOutcome}
-use Rattle.page.specs.declared.levels.ColumnsOutcome.the-variants.{Answered, Refused}
+use Rattle.levels.specs.declared.LevelOut.{LevelOut}
+use Rattle.levels.specs.declared.ColumnsOutcome.{ColumnsOutcome}
+use Rattle.levels.specs.declared.ColumnsOutcome.the-variants.{Answered, Refused}
 use Rattle.concatenated.specs.Outer.{RowAnswer, row, none}
 use Rattle.concatenated.specs.Decode.{Reading, Reader, symbols, marks, steps, changed, rowOff, decodedRow, Level, rows, Decoded, answered, refused, decoded}
 use Rattle.concatenated.specs.Flags.{flag}

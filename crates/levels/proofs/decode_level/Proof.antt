@@ -5,11 +5,11 @@ use mathlib.Core.List.{map}
 use lib.ListN.{length, length-map}
 use Rattle.concatenated.specs.Readers.{shortReader}
 use Rattle.readings.specs.Steps.{searchOf}
-use Rattle.page.specs.Levels.{LevelDone}
-use Rattle.page.proofs.LevelSteps.{read-long, read-small, soft-off, row-is-a-word, level-refused, level-settled}
+use Rattle.levels.specs.Levels.{LevelDone}
+use Rattle.levels.proofs.LevelSteps.{read-long, read-small, soft-off, row-is-a-word, level-refused, level-settled}
 use borrow.Author.Needs.{needs}
-use Rattle.page.proofs.levels.decode_level.Statement.{statement}
-use Rattle.page.proofs.levels.decode_level.Tie as tie
+use Rattle.levels.proofs.decode_level.Statement.{statement}
+use Rattle.levels.proofs.decode_level.Tie as tie
 
 read-row-requires : tie.Need-read-row-requires
 read-row-requires c κs = search needs
