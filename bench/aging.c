@@ -103,16 +103,22 @@ static int tally(found most, uint32_t word, const uint8_t *soft, int level, uint
     return unread ? o.number == 9 : !o.number && o.word == most.word && o.count == most.count;
 }
 
-/* Random words of the level: what page decoding searches there once the levels before it are taken off. */
+/* The word of g's code whose information bits, those before the remainder, are all one. Of two paths of one length and sum the one with 0 where they first
+   differ goes first, so this word loses every tie with another word: no written word is misread more often. */
+static uint32_t last_word(uint32_t g) {
+    uint32_t information = (1u << BITS) - (1u << degree(g));
+    return information | remainder_of(information, g);
+}
+
+/* Columns of the level's last word: what page decoding may search there once the levels before it are taken off. */
 static int columns(int rate, double spread, int level, int count) {
     column_tally tallies[LIMITS] = {0};
-    uint32_t g = generator(level);
+    uint32_t word = last_word(generator(level));
     int agree = 1;
     uint64_t wrong_bits = 0;
     start(rate, spread, (uint64_t)(rate + level + 1));
     for (int c = 0; c < count; c++) {
         uint8_t soft[BITS];
-        uint32_t word = product((uint32_t)(scrambled() >> (64 - (BITS - degree(g)))), g);
         for (int j = 0; j < BITS; j++) {
             int bit = word >> (BITS - 1 - j) & 1;
             soft[j] = reading(bit);

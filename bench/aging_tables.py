@@ -120,7 +120,7 @@ def promise_table(bounds, columns):
 def figure(bounds):
     held = {limit: percent(kept([r for r in bounds if int(r["limit"]) == limit], "upper")["rate"]) for limit in LIMITS}
     return (f"**With limit 500, the station's, the promise holds up to a raw bit error rate of {held[500]}; with 200 up to {held[200]}; with 2,000 up to "
-            f"{held[2000]}. Above that we do not promise it.**")
+            f"{held[2000]}, on the channel below. Above that we do not promise it.**")
 
 
 def spread_table(spreads):
@@ -155,7 +155,7 @@ def totals(pages, columns):
     count = {key: f"{int(sum(r[key] for r in pages)):,}" for key in ("pages", "back", "refused", "wrong")}
     return (f"{count['pages']} page decodes ({int(pages[0]['pages']):,} pages a rate, each with the three limits), of which {count['back']} came back, "
             f"{count['refused']} were refused and {count['wrong']} gave wrong data as sound. {sum(r['columns'] for r in read) / 1e6:g} million columns, "
-            f"their share of wrong bits everywhere within {100 * off:.1f} % of the rate named.")
+            f"their share of wrong bits everywhere within {math.ceil(1000 * off) / 10:.1f} % of the rate named.")
 
 
 def main():
