@@ -1,21 +1,17 @@
--- The division of the data at lists, symbol by symbol, and the row that it gives. Assumes nothing.
-use mathlib.Core.Path.{_≡_, refl, sym, ap, ap₂, _∙_, subst}
+-- The data and their remainder, as lists, are the encoded row. Assumes nothing.
+use mathlib.Core.Path.{_≡_, refl, sym, ap, _∙_, subst}
 use mathlib.Core.Logic.{⊎-elim}
 use mathlib.Core.List.{List}
 use Prim.Native.Nat.{ℕ, zero, suc, _+_, _-_, _^_, _≤_, _<_}
-use native.Mathlib.Numerals.{add-one}
 use native.Mathlib.Omega.{arith}
 use lib.ListN.{length, replicate}
 use Rattle.poly.specs.Polynomial.{add}
 use Rattle.poly.proofs.Sum.{lt-or-le}
-use Rattle.field.specs.Element.{mul, inverse, α, Primitive}
-use Rattle.field.specs.Laws.{Field}
+use Rattle.field.specs.Element.{mul, α, Primitive}
 use Rattle.reedsolomon.specs.Words.{Codeword}
-use Rattle.reedsolomon.specs.Encoding.{Divided}
 use Rattle.reedsolomon.specs.Row.{symbol, Symbols, IsCodeword, HasInFront, encodedRow}
-use Rattle.reedsolomon.specs.Steps.{Written, WrittenAt, RowRoots, HasGenerator, IsRemainder}
-use Rattle.reedsolomon.proofs.FieldFacts.{mul-zero}
-use Rattle.reedsolomon.proofs.Encoding.{division-of-no-data, division-of-one-symbol-more, data-with-remainder-are-a-codeword}
+use Rattle.reedsolomon.specs.Steps.{WrittenAt, RowRoots, IsRemainder}
+use Rattle.reedsolomon.proofs.Encoding.{data-with-remainder-are-a-codeword}
 use Rattle.reedsolomon.proofs.Finding.{WordOf}
 use Rattle.reedsolomon.proofs.Answers.{K, encoded-row-if}
 
@@ -23,27 +19,6 @@ pub zeros-at : (n j : ℕ) → symbol (replicate n 0) j ≡ 0
 zeros-at zero j = refl
 zeros-at (suc n) zero = refl
 zeros-at (suc n) (suc j) = zeros-at n j
-
-module _ (m g : ℕ) (F : Field (λ a. a < 2 ^ m) add (mul m g) 0 1 (inverse m g)) (T : ℕ) (a : List ℕ) (gen : HasGenerator m g T a) where
-  abbrev DividedBy : List ℕ → ℕ → List ℕ → Type 0
-  DividedBy d k r = Divided add (mul m g) 0 1 (λ a. a < 2 ^ m) T (symbol a) (symbol d) k (symbol r)
-
-  pub no-data : (d : List ℕ) (n : ℕ) → DividedBy d 0 (replicate n 0)
-  no-data d n = division-of-no-data F T (symbol a) (gen .generator .monic) (symbol d) (symbol (replicate n 0)) (zeros-at n)
-
-  -- a turn of n entries, T at least: behind the first T everything is 0 and stays 0
-  pub one-symbol-more : (n : ℕ) → T ≤ n → (d r r′ : List ℕ) (k : ℕ) → symbol d k < 2 ^ m → DividedBy d k r
-      → Written n (λ i. add (symbol r (suc i)) (mul m g (add (symbol d k) (symbol r 0)) (symbol a (suc i)))) r r′ → DividedBy d (k + 1) r′
-  one-symbol-more n h d r r′ k hd v w =
-      subst (λ (x : ℕ). DividedBy d x r′) (sym (add-one k))
-      (division-of-one-symbol-more F T (symbol a) (gen .generator .monic) (symbol d) (symbol r) (symbol r′) k hd v
-      (record {
-        written = λ i l. w .written i (omega arith);
-        kept = λ i l. ⊎-elim
-            (λ u. w .written i u ∙ ap₂ (λ (x y : ℕ). add x (mul m g (add (symbol d k) (symbol r 0)) y)) (v .ended (suc i) (omega arith)) (gen .ended (suc i) (omega arith))
-            ∙ ap (add 0) (mul-zero F (add (symbol d k) (symbol r 0))) ∙ F .sum-zero 0 ∙ sym (v .ended i l))
-            (λ u. w .kept i u) (lt-or-le i n);
-      }))
 
 -- a codeword of N symbols with the data d in front
 abbrev pub RowOf : (m g N T : ℕ) → List ℕ → List ℕ → Type 0

@@ -1,95 +1,50 @@
--- `syndromes::encoder::turn` meets its contract: one entry a turn of the loop. Assumes nothing.
-use mathlib.Core.Path.{_≡_, ap, ap₂, _∙_}
-use mathlib.Core.List.{List}
-use Prim.Native.Nat.{ℕ, suc, _+_, _-_, _≤_}
-use native.Mathlib.Numerals.{add-one}
-use lib.Bits.{bitXor}
-use lib.ListN.{length, length-set}
+-- `syndromes::encoder::turn` meets its contract: the shifted words, and the multiples added word by word. Assumes nothing.
+use mathlib.Core.Path.{_≡_, sym, ap, _∙_, subst}
+use Prim.Native.Nat.{ℕ, _/_, _%_, _^_, _<_}
+use lib.Bits.{bitXor, xor-lt}
 use Rattle.poly.specs.Polynomial.{add}
-use Rattle.field.specs.Element.{mul}
-use Rattle.reedsolomon.specs.Row.{symbol}
-use Rattle.reedsolomon.specs.Steps.{Written}
-use Rattle.reedsolomon.proofs.Fill.{nothing-written, one-more-written}
-use native.Mathlib.Omega.{arith}
+use Rattle.syndromes.specs.Packed.{multipleAt, multipleOf, numberOf}
+use Rattle.syndromes.proofs.Packed.{joined-first}
+use Rattle.syndromes.proofs.Multiples.{multiple-lt, words-with-multiple}
 use borrow.Author.Needs.{needs}
 use Rattle.syndromes.proofs.encoder.turn.Statement.{statement}
 use Rattle.syndromes.proofs.encoder.turn.Tie as tie
 
-abbrev goal : List ℕ → List ℕ → ℕ → ℕ → ℕ
-goal r g f i = add (symbol r (suc i)) (mul 6 67 f (symbol g (suc i)))
+shifted-requires : tie.Need-shifted-requires
+shifted-requires c κs = search needs
 
-abbrev Inv-loop : tie.InvT-loop
-Inv-loop r₀ g u f i₀ r i = (i ≤ 32) × (length r ≡ length r₀) × Written i (goal r₀ g f) r₀ r
+multiple-requires : tie.Need-multiple-requires
+multiple-requires c κs = search needs
 
-abbrev μ-loop : tie.MeasureT-loop
-μ-loop r₀ g u f i₀ r i = 32 - i
+multiple-requires-2 : tie.Need-multiple-requires-2
+multiple-requires-2 c κs = search needs
 
-slice-read-f : tie.Need-slice-read-f Inv-loop μ-loop
-slice-read-f c = search needs
+multiple-requires-3 : tie.Need-multiple-requires-3
+multiple-requires-3 c κs = search needs
 
-loop-holds : tie.Need-loop-holds Inv-loop μ-loop
-loop-holds c = (search needs, search needs, nothing-written _ _)
-
-add-r : tie.Need-add-r Inv-loop μ-loop
-add-r c = search needs
-
-slice-read-r : tie.Need-slice-read-r Inv-loop μ-loop
-slice-read-r c = search needs
-
-add-product : tie.Need-add-product Inv-loop μ-loop
-add-product c = search needs
-
-shared-slice-read-product : tie.Need-shared-slice-read-product Inv-loop μ-loop
-shared-slice-read-product c = search needs
-
-product-requires : tie.Need-product-requires Inv-loop μ-loop
-product-requires c κs = search needs
-
-slice-write-r : tie.Need-slice-write-r Inv-loop μ-loop
-slice-write-r c = search needs
-
-add-i : tie.Need-add-i Inv-loop μ-loop
-add-i c = search needs
-
-loop-less : tie.Need-loop-less Inv-loop μ-loop
-loop-less c = search needs
-
-loop-again : tie.Need-loop-again Inv-loop μ-loop
+returns : tie.Need-returns
 unfolding add
-loop-again c =
-    let l = c .before .before .before .before .loop in
-    let f = l .inv .2 in
-    let a = c .before .before .before .before .before .before .before .before .args in
-    let u : l .i ≤ l .i + 1 = omega arith in (
-      omega arith,
-      simp length-set (omega arith),
-      one-more-written _ _ _ _ _ f (omega arith)
-          (ap₂ bitXor (f .kept (l .i + 1) u ∙ ap (symbol (a .r .now)) (add-one (l .i))) (c .product .ensures ∙ ap (λ (x : ℕ). mul 6 67 (bitXor (a .u) (symbol (a .r .now) 0)) (symbol (a .g .now) x)) (add-one (l .i)))),
+returns c =
+    let start = c .before .before .before .before .before .before .before .before .before in
+    let w = start .args .w in
+    let g = start .args .g .now in
+    let small = start .pre .2 in
+    let s = c .before .before .before .before .before .before .shifted in
+    let s1 = c .before .before .before .before .before .multiple in
+    let s2 = c .before .before .before .multiple2 in
+    let s3 = c .before .multiple3 in
+    let f : ℕ = bitXor (start .args .u) (w .low % 2 ^ 6) in
+    let lt : (from x : ℕ) → x ≡ multipleAt g from f → x < 2 ^ 60 = λ from x e. subst (λ (t : ℕ). t < 2 ^ 60) (sym e) (multiple-lt g small from f) in (
+      words-with-multiple g small _ _ _ _ _ _ _ f (s .ensures .1 .low) (s .ensures .1 .middle) (s .ensures .0) (s1 .ensures) (s2 .ensures) (s3 .ensures)
+          ∙ ap (λ (t : ℕ). add (numberOf w / 2 ^ 6) (multipleOf g (add (start .args .u) t))) (sym (joined-first (w .low) (w .middle) (w .high))),
+      record {
+        low = xor-lt 60 _ _ (s .ensures .1 .low) (lt 0 _ (s1 .ensures));
+        middle = xor-lt 60 _ _ (s .ensures .1 .middle) (lt 6 _ (s2 .ensures));
+        high = xor-lt 60 _ _ (s .ensures .1 .high) (lt 12 _ (s3 .ensures));
+      },
     )
-
-same-length : tie.Need-same-length Inv-loop μ-loop
-same-length c = search needs
-
-returns : tie.Need-returns Inv-loop μ-loop
-unfolding add
-returns c = let e : c .before .loop .i ≡ 32 = omega arith in rw e at (c .before .loop .inv .2)
 
 pub turn-spec : {M : Type 1} → statement M
 turn-spec =
     tie.close
-    (tie.spec
-    Inv-loop
-    μ-loop
-    slice-read-f
-    loop-holds
-    add-r
-    slice-read-r
-    add-product
-    shared-slice-read-product
-    product-requires
-    slice-write-r
-    add-i
-    loop-less
-    loop-again
-    same-length
-    returns)
+    (tie.spec shifted-requires multiple-requires multiple-requires-2 multiple-requires-3 returns)

@@ -1,0 +1,3 @@
+pub mod Packed
+pub mod Multiples
+pub mod Tables
