@@ -66,6 +66,19 @@ module _ (d g : ℕ) (deg : Degree d g) where
   divide-end w r i e low same =
       sym (remainder-small d g r (subst (λ (t : ℕ). r < 2 ^ t) (ap (λ (t : ℕ). d + t) e ∙ Nat.add-zero d) low)) ∙ same
 
+-- a product with a digit
+pub digit-product : (p q : ℕ) → q < 2 → p * q ≡ scale (q % 2) p
+unfolding scale
+digit-product p zero h = Nat.mul-zero p
+digit-product p (suc zero) h = Nat.mul-one p
+digit-product p (suc (suc q)) h = absurd (omega arith)
+
+-- the digit that a turn clears is the highest
+pub highest-digit : (r d i : ℕ) → 0 < i → r < 2 ^ (d + i) → r / 2 ^ (d + (i - 1)) < 2
+highest-digit r d i h low =
+    let next : d + i ≡ 1 + (d + (i - 1)) = omega arith in
+    lib.Pow.shr-lt 1 (d + (i - 1)) (subst (λ (t : ℕ). r < 2 ^ t) next low)
+
 -- ---- a symbol shifted before its remainder bits
 
 pub shifted-lt : (k d s : ℕ) → s < 2 ^ k → s * 2 ^ d < 2 ^ (d + k)

@@ -10,11 +10,12 @@ ghost use Rattle.poly.specs.Polynomial.{scale, remainder as remainderOf, Degree
 ghost use Rattle.column.specs.Shape.{short, generator as generatorOf, degree};
 ghost use Rattle.column.specs.Level.{levelWord, columnOf, reimaged, isWord};
 
-// p where the lowest digit of q is set, else 0
+// p where the digit q is 1, else 0: a product, since a branch on a digit is mispredicted half of the time
 fn pick(p: u64, q: u64) -> u64
+    requires { ⌜ q < 2 ⌝ }
     ensures { λ r. ⌜ r ≡ scale (q % 2) p ⌝ }
 {
-    if q % 2 == 1 { p } else { 0 }
+    p * q
 }
 
 // The remainder of w by g, of degree d, where w has at most k bits more than that.

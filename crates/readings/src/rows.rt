@@ -13,12 +13,13 @@ ghost use Rattle.concatenated.specs.Decode.{rowOff, changed};
 ghost use Rattle.concatenated.specs.Flags.{flag, isOne};
 ghost use Rattle.concatenated.specs.Arrays.{SoftColumns};
 
-// The soft value at a place with a word's bit there taken off.
+// The soft value at a place with a word's bit there taken off: 7 - q is q with its three bits exchanged, and no branch is on the word's bit.
 fn value_off(w: u64, p: usize, q: u8) -> u8
     requires { ⌜ (p < 30) × (q ≤ 7) ⌝ }
     ensures { λ r. ⌜ r ≡ takenOffBy (digit 2 (29 - p) w) q ⌝ }
 {
-    if (w >> (29 - p)) % 2 == 0 { q } else { 7 - q }
+    let bit = ((w >> (29 - p)) % 2) as u8;
+    q ^ (bit * 7)
 }
 
 // A soft column with a word taken off.

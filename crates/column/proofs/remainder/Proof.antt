@@ -4,7 +4,7 @@ use Prim.Native.Nat.{_+_, _^_, _≤_, _<_}
 use native.Mathlib.Omega.{arith}
 use borrow.Author.Needs.{needs}
 use Rattle.poly.specs.Polynomial.{remainder}
-use Rattle.column.proofs.Division.{divide-turn, divide-end}
+use Rattle.column.proofs.Division.{highest-digit, divide-turn, divide-end}
 use Rattle.column.proofs.remainder.Statement.{statement}
 use Rattle.column.proofs.remainder.Tie as tie
 
@@ -30,7 +30,9 @@ shr-pick : tie.Need-shr-pick Inv-loop μ-loop
 shr-pick c = search needs
 
 pick-requires : tie.Need-pick-requires Inv-loop μ-loop
-pick-requires c κs = search needs
+pick-requires c κs =
+    let at-loop = c .before in
+    highest-digit (at-loop .loop .r) (at-loop .before .args .d) (at-loop .loop .i) (search needs) (at-loop .loop .inv .1)
 
 loop-less : tie.Need-loop-less Inv-loop μ-loop
 loop-less c = search needs
