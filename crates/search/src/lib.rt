@@ -99,6 +99,15 @@ fn value_of(values: &[i16; 16], q: u8, bit: u64) -> i16
     values[i]
 }
 
+// What a soft value gives to the other bit: its entry stands eight places away.
+fn other_value(values: &[i16; 16], q: u8, bit: u64) -> i16
+    requires { ⌜ (q < 8) × (bit < 2) × (length (now values) ≡ 16) ⌝ }
+    ensures { λ r. ⌜ r ≡ getD (now (values .entry)) ((1 - bit) * 8 + q) (pos 0) ⌝ }
+{
+    let i = (bit as usize * 8 + q as usize) ^ 8;
+    values[i]
+}
+
 // Whether no check is there.
 fn unchecked(x: u64, y: u64) -> bool
     ensures { λ r. ⌜ r ≡ (eqb x 0 && eqb y 0) ⌝ }
@@ -170,7 +179,7 @@ fn advance(
         let bit = read_bit(q);
         let other = 1 - bit;
         let sb = s + value_of(values, q, bit);
-        let so = s + value_of(values, q, other);
+        let so = s + other_value(values, q, bit);
         let cb = c + bit;
         let co = c + other;
         stack::rise(&mut *sums, &mut *lens, &mut *bits, paths, so, m, co);

@@ -4,6 +4,7 @@ use native.Mathlib.Omega.{arith}
 use mathlib.Core.Bool.{true, false}
 use mathlib.Core.Path.{_≡_, sym, ap, _∙_, subst}
 use lib.IntN.{ℤ}
+use lib.Signed.{ltZ}
 use Rattle.heap.specs.Heap.{weigh, Every, Heap}
 use Rattle.heap.proofs.Ways.{root-first}
 use Rattle.heap.proofs.Lists.{every-kept}
@@ -42,6 +43,11 @@ out-sunk f₀ f n x y p₀ p w b q =
       weight = λ h. ap (λ (z : Key). weigh h f n + h z) (sym q) ∙ w h;
       first = subst (λ (z : Key). Every (Upto z) f n) q (stay (Upto (f₀ 0)) f₀ f n n x (λ h. omega (arith, w h)) (upto-not (f₀ 0) x b) (root f₀ n p₀));
     }
+
+-- a path with a larger sum than the root's comes out again
+pub root-after : (s t : ℤ) (l b l′ b′ : ℕ) → ltZ t s ≡ true → keyBefore (key t l′ b′) (key s l b) ≡ false
+unfolding keyBefore
+root-after s t l b l′ b′ e = let first : keyBefore (key s l b) (key t l′ b′) ≡ true = simp e in upto-not (key s l b) (key t l′ b′) first
 
 -- ---- one out
 

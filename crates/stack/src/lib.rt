@@ -206,7 +206,7 @@ pub struct Path {
     pub bits: u64,
 }
 
-// A path goes in, and the first of it and the paths that are there comes out.
+// A path goes in, and the first of it and the paths that are there comes out. The sums are compared first: on a clean column they tell at every step.
 pub fn exchange(
     sums: &mut [i16; 2002],
     lens: &mut [u8; 2002],
@@ -233,6 +233,13 @@ pub fn exchange(
         };
     }
     let st = sums[0];
+    if st < s {
+        return Path {
+            sum: s,
+            len: l,
+            bits: b,
+        };
+    }
     let lt = lens[0];
     let bt = bits[0];
     if stands_before(st, lt, bt, s, l, b) {

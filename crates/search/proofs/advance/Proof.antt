@@ -104,16 +104,16 @@ add-sb c =
     let e = c .before .before .before .before .before .before .before in
     sum-fits _ _ (start e .fits .s) (record { sfits = c .value-of .ok }) (added e _ (c .before .read-bit .result) (c .before .read-bit .ensures) (c .value-of .ensures))
 
-value-of-requires-2 : tie.Need-value-of-requires-2
-value-of-requires-2 c κs =
+other-value-requires : tie.Need-other-value-requires
+other-value-requires c κs =
     let e = c .before .before .before .before .before .before .before in
     let a = start e in
-    (a .pre .1 .0 .soft (a .args .l) (less e), omega arith, a .pre .1 .0 .entries)
+    (a .pre .1 .0 .soft (a .args .l) (less e), c .before .read-bit .ensures, a .pre .1 .0 .entries)
 
 add-so : tie.Need-add-so
 add-so c =
     let e = c .before .before .before .before .before .before .before .before in
-    sum-fits _ _ (start e .fits .s) (record { sfits = c .value-of2 .ok }) (added e _ (1 - c .before .before .read-bit .result) (omega arith) (c .value-of2 .ensures))
+    sum-fits _ _ (start e .fits .s) (record { sfits = c .other-value .ok }) (added e _ (1 - c .before .before .read-bit .result) (omega arith) (c .other-value .ensures))
 
 add-cb : tie.Need-add-cb
 add-cb c =
@@ -139,7 +139,7 @@ exchange-requires c κs =
     let n = a .args .n in
     let most = a .pre .1 .0 .most in
     let kt = extended e (v1 .value-of .result) (rd .read-bit .result) (rd .read-bit .ensures) (v1 .value-of .ensures) (record { sfits = v1 .value-of .ok }) in
-    let ku = extended e (v2 .value-of2 .result) (1 - rd .read-bit .result) (omega arith) (v2 .value-of2 .ensures) (record { sfits = v2 .value-of2 .ok }) in (
+    let ku = extended e (v2 .other-value .result) (1 - rd .read-bit .result) (omega arith) (v2 .other-value .ensures) (record { sfits = v2 .other-value .ok }) in (
       omega (arith, a .pre .0),
       (
         rs .rise .ensures .0,
@@ -164,7 +164,7 @@ returns-2 c =
     let a = start e in
     let t = rd .read-bit .result in
     let kt = extended e (v1 .value-of .result) t (rd .read-bit .ensures) (v1 .value-of .ensures) (record { sfits = v1 .value-of .ok }) in
-    let ku = extended e (v2 .value-of2 .result) (1 - t) (omega arith) (v2 .value-of2 .ensures) (record { sfits = v2 .value-of2 .ok }) in (
+    let ku = extended e (v2 .other-value .result) (1 - t) (omega arith) (v2 .other-value .ensures) (record { sfits = v2 .other-value .ok }) in (
       c .before .exchange .ensures .0,
       advanced-at _ _ _ _ _ _ _ _ _ _ (record { sfits = c .struct-told .given .0 .1 })
           (advanced-both (a .args .n) (a .args .col .now) (a .args .left .now) (a .args .right .now) (a .args .values .now) (a .pre .1 .0) (a .args .s) (a .args .l) (a .args .b) (less e) (a .pre .1 .1 .0) _ _ (a .args .paths) (a .pre .1 .1 .1 .1 .1)
@@ -203,8 +203,8 @@ returns-3 c =
 asked-bit-requires : tie.Need-asked-bit-requires
 asked-bit-requires c κs = search needs
 
-value-of-requires-3 : tie.Need-value-of-requires-3
-value-of-requires-3 c κs =
+value-of-requires-2 : tie.Need-value-of-requires-2
+value-of-requires-2 c κs =
     let cf = c .before .before in
     let p2 = cf .before in
     let p1 = p2 .before in
@@ -222,7 +222,7 @@ add-sb-2 c =
     let a = start e in
     let t = ab .asked-bit .result in
     let ht : t < 2 = omega (arith, ab .asked-bit .ensures, bit-less (p1 .parity-under .result) (p2 .parity-under2 .result) (p2 .parity-under2 .ensures .1)) in
-    sum-fits _ _ (a .fits .s) (record { sfits = c .value-of3 .ok }) (added e _ t ht (c .value-of3 .ensures))
+    sum-fits _ _ (a .fits .s) (record { sfits = c .value-of2 .ok }) (added e _ t ht (c .value-of2 .ensures))
 
 add-cb-2 : tie.Need-add-cb-2
 add-cb-2 c =
@@ -247,7 +247,7 @@ exchange-requires-2 c κs =
     let a = start e in
     let t = ab .asked-bit .result in
     let ht : t < 2 = omega (arith, ab .asked-bit .ensures, bit-less (p1 .parity-under .result) (p2 .parity-under2 .result) (p2 .parity-under2 .ensures .1)) in
-    let kt = extended e (v3 .value-of3 .result) t ht (v3 .value-of3 .ensures) (record { sfits = v3 .value-of3 .ok }) in
+    let kt = extended e (v3 .value-of2 .result) t ht (v3 .value-of2 .ensures) (record { sfits = v3 .value-of2 .ok }) in
     let n = a .args .n in
     let most = a .pre .1 .0 .most in
     (omega (arith, a .pre .0), (a .pre .1 .1 .1 .0, (a .pre .1 .1 .1 .1 .0, (held-small n most _ (a .args .paths) (a .pre .1 .1 .1 .1 .1), good-small n _ most (subst⁻¹ (Good n) kt (held-extended e t .good))))))
@@ -263,7 +263,7 @@ returns-4 c =
     let a = start e in
     let t = ab .asked-bit .result in
     let ht : t < 2 = omega (arith, ab .asked-bit .ensures, bit-less (p1 .parity-under .result) (p2 .parity-under2 .result) (p2 .parity-under2 .ensures .1)) in
-    let kt = extended e (v3 .value-of3 .result) t ht (v3 .value-of3 .ensures) (record { sfits = v3 .value-of3 .ok }) in (
+    let kt = extended e (v3 .value-of2 .result) t ht (v3 .value-of2 .ensures) (record { sfits = v3 .value-of2 .ok }) in (
       c .before .exchange2 .ensures .0,
       advanced-at _ _ _ _ _ _ _ _ _ _ (record { sfits = c .struct-told2 .given .0 .1 })
           (advanced-one (a .args .n) (a .args .col .now) (a .args .left .now) (a .args .right .now) (a .args .values .now) (a .pre .1 .0) (a .args .s) (a .args .l) (a .args .b) (less e) (a .pre .1 .1 .0) _ _ (a .args .paths) (a .pre .1 .1 .1 .1 .1)
@@ -290,7 +290,7 @@ advance-spec =
     sub-other
     value-of-requires
     add-sb
-    value-of-requires-2
+    other-value-requires
     add-so
     add-cb
     add-co
@@ -303,7 +303,7 @@ advance-spec =
     take-next-requires-2
     returns-3
     asked-bit-requires
-    value-of-requires-3
+    value-of-requires-2
     add-sb-2
     add-cb-2
     exchange-requires-2
