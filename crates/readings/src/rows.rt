@@ -14,11 +14,13 @@ ghost use Rattle.concatenated.specs.Flags.{flag, isOne};
 ghost use Rattle.concatenated.specs.Arrays.{SoftColumns};
 
 // The soft value at a place with a word's bit there taken off: 7 - q is q with its three bits exchanged, and no branch is on the word's bit.
+// The word is cut to 32 bits, so that more values are worked on at a time.
 fn value_off(w: u64, p: usize, q: u8) -> u8
     requires { ⌜ (p < 30) × (q ≤ 7) ⌝ }
     ensures { λ r. ⌜ r ≡ takenOffBy (digit 2 (29 - p) w) q ⌝ }
 {
-    let bit = ((w >> (29 - p)) % 2) as u8;
+    let v = (w % 4294967296) as u32;
+    let bit = ((v >> (29 - p)) % 2) as u8;
     q ^ (bit * 7)
 }
 
