@@ -1,6 +1,6 @@
 -- Which paths begin a codeword. A path of t bits is a number below 2 ^ t, its first bit on top. Assumes nothing.
 use mathlib.Core.Path.{_≡_}
-use Prim.Native.Nat.{ℕ, _-_, _*_, _/_, _^_, _<_}
+use Prim.Native.Nat.{ℕ, _-_, _/_, _^_}
 use Rattle.column.specs.Shape.{Code, Word, Shape, levelCode}
 
 -- 01: "A path exists in a code's trellis if it begins some codeword."

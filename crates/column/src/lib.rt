@@ -3,9 +3,8 @@
 pub mod masks;
 
 ghost use mathlib.Core.Path.{_≡_};
-ghost use mathlib.Core.List.{List, [], _∷_};
+ghost use mathlib.Core.List.{[], _∷_};
 ghost use Prim.Native.Nat.{_+_, _*_, _%_, _^_, _<_, _≤_};
-ghost use lib.Dec.{eqb};
 ghost use Rattle.poly.specs.Polynomial.{scale, remainder as remainderOf, Degree};
 ghost use Rattle.column.specs.Shape.{short, generator as generatorOf, degree};
 ghost use Rattle.column.specs.Level.{levelWord, columnOf, reimaged, isWord};

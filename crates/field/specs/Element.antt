@@ -1,7 +1,6 @@
 -- The field of 2 ^ m elements by a modulus g of degree m. An element is a number below 2 ^ m, its bit k the coefficient of α ^ k; the sum is the bitwise sum.
 -- 01: "powers of α with α^6 = α + 1" is m = 6, g = x ^ 6 + x + 1. Assumes nothing.
-use mathlib.Core.Path.{_≡_}
-use mathlib.Core.Bool.{Bool, true, false, not}
+use mathlib.Core.Bool.{Bool, true, false}
 use Prim.Native.Nat.{ℕ, zero, suc, _-_, _*_, _%_, _^_, _<_}
 use lib.Dec.{T, eqb}
 use Rattle.poly.specs.Polynomial.{product, reduced, remainder, Degree}

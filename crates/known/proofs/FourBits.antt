@@ -1,5 +1,5 @@
 -- The four-bit code's words are those that fit its rows, and one dead path is ahead of its answer. Assumes nothing.
-use mathlib.Core.Bool.{true, false, _&&_}
+use mathlib.Core.Bool.{false, _&&_}
 use mathlib.Core.List.{[], _∷_}
 use mathlib.Core.Path.{_≡_, refl}
 use lib.Count.{ones}

@@ -1,6 +1,6 @@
 -- Packing by digits: a run of bytes, or of symbols, is one number, its first entry the highest digit. Assumes nothing.
 use mathlib.Core.List.{List, [], _∷_}
-use Prim.Native.Nat.{ℕ, zero, suc, _+_, _*_, _/_, _%_, _^_}
+use Prim.Native.Nat.{ℕ, _+_, _*_, _/_, _%_, _^_}
 use Rattle.packing.specs.declared.Symbols.{Symbols}
 use Rattle.packing.specs.declared.Bytes.{Bytes}
 use Rattle.packing.specs.declared.ColumnBytes.{ColumnBytes}

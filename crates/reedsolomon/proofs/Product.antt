@@ -1,6 +1,6 @@
 -- The polynomial with the marked places as its roots, built by sifting. Assumes nothing.
 use mathlib.Core.Path.{_≡_, sym, ap, ap₂, _∙_, subst}
-use mathlib.Core.Bool.{Bool, true, false}
+use mathlib.Core.Bool.{Bool, true}
 use Prim.Native.Nat.{ℕ, suc, _+_, _<_}
 use native.Mathlib.Nat.{lt-irrefl, suc-add, add-suc}
 use native.Mathlib.Decide.{ℕ-discrete, decLe}

@@ -1,6 +1,5 @@
 -- Syndromes are power sums of the symbols at the columns' positions. Assumes nothing.
 use mathlib.Core.Path.{_≡_, sym, ap, _∙_}
-use mathlib.Core.Logic.{_↔_}
 use Prim.Native.Nat.{ℕ, suc, _-_, _<_}
 use Rattle.field.specs.Laws.{Field}
 use Rattle.reedsolomon.specs.Sums.{sum, power, powerSum, position}

@@ -1,6 +1,6 @@
 -- The parity of 64 bits is that of the sum of their halves. Assumes nothing.
 use mathlib.Core.Path.{_≡_, sym, ap, ap₂, _∙_}
-use Prim.Native.Nat.{ℕ, _+_, _-_, _*_, _/_, _%_, _^_, _<_}
+use Prim.Native.Nat.{ℕ, _+_, _-_, _/_, _%_, _^_, _<_}
 use native.Mathlib.Nat
 use native.Mathlib.Nat.{mod-lt, mod-eq-of-lt}
 use lib.Bits.{bitXor, and-mask}

@@ -1,7 +1,6 @@
 // The searches of the short page's columns: 30 bits, 01's branch values.
 ghost use Prim.Native.Nat.{ℕ, _<_, _≤_};
 ghost use mathlib.Core.Path.{_≡_};
-ghost use lib.ListN.{length, getD};
 ghost use Rattle.column.specs.Shape.{short};
 ghost use Rattle.trellis.specs.Values.{values as branchValues};
 ghost use Rattle.trellis.specs.Demand.{Search, trellis};

@@ -8,7 +8,7 @@ use lib.ListN.{length, getD}
 use mir.Syntax.{w16}
 use mir.Val.{SFits}
 use Rattle.heap.specs.Heap.{weigh, Every, Heap}
-use Rattle.trellis.specs.Keys.{Key, key, keyBefore}
+use Rattle.trellis.specs.Keys.{Key, keyBefore}
 
 -- the key at a place of three arrays
 abbrev pub at : List ℤ → List ℕ → List ℕ → ℕ → Key

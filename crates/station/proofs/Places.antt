@@ -12,7 +12,7 @@ use Rattle.dump.specs.Dump.{blockAt, softOf}
 use Rattle.column.specs.Shape.{Shape, levels}
 use Rattle.trellis.specs.Demand.{Search}
 use Rattle.concatenated.specs.Outer.{RowAnswer, row, none, RowDecoder}
-use Rattle.concatenated.specs.Decode.{Reader, Reading, Level, State, going, stopped, refused, decodedRow, settle, onward, run, outcome, decoded}
+use Rattle.concatenated.specs.Decode.{Reader, Reading, Level, State, going, stopped, decodedRow, settle, onward, run, outcome, decoded}
 use Rattle.page.specs.Outcomes.{outcomeOf}
 use Rattle.page.specs.declared.PageOutcome.{PageOutcome}
 use Rattle.questions.specs.Questions.{ask, firstAbove}

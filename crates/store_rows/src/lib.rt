@@ -1,6 +1,6 @@
 // Row calls: 01, "Rows and page".
 ghost use mathlib.Core.Path.{_≡_};
-ghost use Prim.Native.Nat.{_<_, _≤_};
+ghost use Prim.Native.Nat.{_<_};
 ghost use Rattle.reedsolomon.specs.Row.{outerAnswer, encodedRow, wordOf};
 ghost use Rattle.questions.specs.Outcome.{Filled};
 ghost use Rattle.store_rows.specs.Rows.{rootsOf, lengthRight, encodeRowAnswer, decodeRowAnswer};

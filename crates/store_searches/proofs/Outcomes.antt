@@ -7,7 +7,6 @@ use lib.ListN.{length, getD}
 use Rattle.paths.specs.Search.{Outcome, answer, spent}
 use Rattle.trellis.specs.Demand.{Search}
 use Rattle.search.specs.Outcomes.{codeOutcome, Searchable30, MasksFor}
-use Rattle.search.specs.declared.Outcome as code
 use Rattle.search.specs.declared.Outcome.the-variants.{Found as CodeFound, Spent as CodeSpent}
 use Rattle.search.proofs.ShortSearch.{masks-are-odd}
 use Rattle.questions.specs.Questions.{firstAbove}

@@ -1,10 +1,10 @@
 -- `column::reimage` meets its contract. The loop's invariant: the words of the levels above i were taken off. Assumes nothing.
-use mathlib.Core.Path.{_≡_, refl, sym, ap, _∙_}
-use Prim.Native.Nat.{ℕ, suc, _-_, _^_, _≤_, _<_}
+use mathlib.Core.Path.{_≡_, ap, _∙_}
+use Prim.Native.Nat.{ℕ, suc, _-_, _≤_, _<_}
 use native.Mathlib.Omega.{arith}
 use lib.Dec.{lit<}
 use borrow.Author.Needs.{needs}
-use Rattle.column.specs.Shape.{short, degree}
+use Rattle.column.specs.Shape.{short}
 use Rattle.column.specs.Level.{takenOff}
 use Rattle.column.proofs.Cascade.{shown-symbol, shown-lt, level-taken-off}
 use Rattle.column.proofs.Short.{sound, level-room, nothing-taken-off}

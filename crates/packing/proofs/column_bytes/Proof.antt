@@ -1,6 +1,6 @@
 -- `packing::column_bytes` meets its contract: each byte as a digit of the column and its two zeros. Assumes nothing.
 use mathlib.Core.Path.{_≡_, sym, ap, _∙_}
-use Prim.Native.Nat.{ℕ, _/_, _*_, _%_, _^_}
+use Prim.Native.Nat.{ℕ, _/_, _*_, _%_}
 use native.Mathlib.Nat.{div-one}
 use lib.Bits.{and-mask, mask-lt}
 use Rattle.packing.proofs.Masked.{lowest-byte}

@@ -1,6 +1,6 @@
 -- `packing::pack` meets its contract: each byte as a sum of shifted digits. Assumes nothing.
 use mathlib.Core.Path.{_≡_, _∙_}
-use Prim.Native.Nat.{ℕ, _/_}
+use Prim.Native.Nat.{_/_}
 use native.Mathlib.Omega.{arith}
 use Rattle.packing.specs.Packing.{joined, bytesOf}
 use Rattle.packing.proofs.Masked.{shifted-or, masked-shifted-or}

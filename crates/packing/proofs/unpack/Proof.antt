@@ -1,6 +1,6 @@
 -- `packing::unpack` meets its contract: each symbol as a sum of shifted digits. Assumes nothing.
 use mathlib.Core.Path.{_≡_, _∙_}
-use Prim.Native.Nat.{ℕ, _/_}
+use Prim.Native.Nat.{_/_}
 use native.Mathlib.Omega.{arith}
 use lib.Bits.{and-mask}
 use Rattle.packing.specs.Packing.{joined, symbolsOf}

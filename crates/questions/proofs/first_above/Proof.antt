@@ -1,6 +1,6 @@
 -- `store::questions::first_above` meets its contract. The loop's invariant: the first bad value is none of those passed. Assumes nothing.
 use mathlib.Core.Path.{_≡_, _∙_}
-use Prim.Native.Nat.{ℕ, _≤_, _+_, _-_}
+use Prim.Native.Nat.{_≤_, _+_, _-_}
 use lib.ListN.{length, drop}
 use Rattle.questions.specs.Questions.{firstAbove}
 use Rattle.questions.proofs.FirstAbove.{first-more, first-here, first-none}

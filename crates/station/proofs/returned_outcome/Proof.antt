@@ -1,5 +1,5 @@
 -- `station::returned_outcome` meets its contract, case by case. Assumes nothing.
-use mathlib.Core.Path.{_≡_, sym, ap, _∙_, subst}
+use mathlib.Core.Path.{sym, ap, _∙_, subst}
 use Rattle.questions.specs.declared.Outcome.{Outcome}
 use Rattle.questions.specs.Outcome.{number, place}
 use Rattle.station.specs.Returned.{returned}

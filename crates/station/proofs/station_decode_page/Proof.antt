@@ -1,5 +1,5 @@
 -- `station::station_decode_page` meets its contract: each return by what was asked on the way to it. Assumes nothing.
-use mathlib.Core.Path.{_≡_, sym, ap, _∙_}
+use mathlib.Core.Path.{sym, ap, _∙_}
 use lib.ListN.{length}
 use Rattle.dump.proofs.Put.{all-copied}
 use Rattle.station.proofs.PageReturns.{refused-by-soft-length, refused-by-report-length, small, refused, answered}

@@ -1,5 +1,5 @@
 -- `store::columns::level_word` meets its contract: each return rewrites with the tests that led there. Assumes nothing.
-use borrow.Author.Tests.{le-ltb, lt-ltb, le-leb, lt-leb, eq-eqb, ne-eqb}
+use borrow.Author.Tests.{le-ltb, lt-ltb}
 use borrow.Author.Needs.{needs}
 use Rattle.store_columns.proofs.level_word.Statement.{statement}
 use Rattle.store_columns.proofs.level_word.Tie as tie

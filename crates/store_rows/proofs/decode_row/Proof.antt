@@ -1,8 +1,7 @@
 -- `store::rows::decode_row` meets its contract: each return rewrites with the tests that led there. Assumes nothing.
 use mathlib.Core.Path.{_≡_, sym, ap, _∙_, subst}
-use Prim.Native.Nat.{ℕ, _+_, _≤_, _<_}
-use borrow.Author.Tests.{le-ltb, lt-ltb, le-leb, lt-leb, eq-eqb, ne-eqb, not-true, not-false}
-use lib.ListN.{length}
+use Prim.Native.Nat.{ℕ, _≤_, _<_}
+use borrow.Author.Tests.{le-ltb, lt-ltb, le-leb, lt-leb, eq-eqb, ne-eqb}
 use Rattle.reedsolomon.specs.Row.{outerAnswer, wordOf, isFound}
 use Rattle.questions.specs.Questions.{firstAbove}
 use Rattle.store_rows.proofs.RowRanges.{roots-most, symbols-in-range, none-written}

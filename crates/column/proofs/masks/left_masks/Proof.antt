@@ -1,6 +1,5 @@
 -- `column::masks::left_masks` meets its contract: the tables were computed; two levels share one. Assumes nothing.
 use native.Mathlib.Omega.{arith}
-use lib.Dec.{lit<}
 use Rattle.column.proofs.ShortMasks.{f1Masks, f13Masks, left-masks-low, left-masks-high}
 use Rattle.column.proofs.masks.left_masks.Statement.{statement}
 use Rattle.column.proofs.masks.left_masks.Tie as tie

@@ -1,8 +1,6 @@
 -- `search::short_page::values` meets its contract: the sixteen entries, computed. Assumes nothing.
 use mathlib.Core.Path.{refl}
 use Rattle.trellis.specs.Values.{branch, reading, doubt}
-use native.Mathlib.Omega.{arith}
-use borrow.Author.Needs.{needs}
 use Rattle.search.proofs.short_page.values.Statement.{statement}
 use Rattle.search.proofs.short_page.values.Tie as tie
 
