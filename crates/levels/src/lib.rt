@@ -3,7 +3,7 @@ ghost use mathlib.Core.Path.{_≡_};
 ghost use Prim.Native.Nat.{_<_, _≤_};
 ghost use lib.ListN.{length};
 ghost use Rattle.trellis.specs.Values.{values};
-ghost use Rattle.search.specs.Steps.{tableOf};
+ghost use Rattle.extension.specs.Steps.{tableOf};
 ghost use Rattle.stack.specs.Places.{Room};
 ghost use Rattle.concatenated.specs.Readers.{shortReader};
 ghost use Rattle.concatenated.specs.Arrays.{SoftColumns};

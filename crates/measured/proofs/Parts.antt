@@ -5,7 +5,7 @@ use Prim.Native.Nat.{ℕ, _+_, _-_, _≤_, _<_}
 use native.Mathlib.Omega.{arith}
 use lib.ListN.{length, take, drop, getD, length-take, length-drop}
 use lib.Seq.{getD-drop, getD-take}
-use Rattle.search.specs.Steps.{Odd}
+use Rattle.extension.specs.Steps.{Odd}
 use Rattle.search.specs.Outcomes.{Searchable30}
 
 pub part-searchable : (soft left right : List ℕ) (a : ℕ) → a ≤ length soft → 30 ≤ length soft - a → ((k : ℕ) → k < length soft → getD soft k 0 < 8)

@@ -2,7 +2,7 @@
 ghost use Prim.Native.Nat.{ℕ, _<_, _≤_};
 ghost use mathlib.Core.Path.{_≡_};
 ghost use lib.ListN.{length, getD};
-ghost use Rattle.search.specs.Steps.{Odd};
+ghost use Rattle.extension.specs.Steps.{Odd};
 use search::Outcome;
 
 fn folded(found: Outcome) -> u64 {

@@ -5,7 +5,7 @@ ghost use Prim.Native.Nat.{_<_, _≤_};
 ghost use lib.ListN.{length};
 ghost use Rattle.column.specs.Shape.{short};
 ghost use Rattle.trellis.specs.Values.{values};
-ghost use Rattle.search.specs.Steps.{tableOf};
+ghost use Rattle.extension.specs.Steps.{tableOf};
 ghost use Rattle.stack.specs.Places.{Room};
 ghost use Rattle.search.specs.Outcomes.{MasksFor};
 ghost use Rattle.concatenated.specs.Decode.{symbol, mark, count};

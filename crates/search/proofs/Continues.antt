@@ -21,10 +21,11 @@ use Rattle.trellis.specs.Values.{Values}
 use Rattle.trellis.specs.Order.{bit}
 use Rattle.trellis.specs.Keys.{Key, key, keyBefore, keyExtension, keyPasses, keyNodes, keySearch}
 use Rattle.stack.specs.Places.{Upto}
-use Rattle.search.specs.Steps.{TableOf, Given, tableExtension, tableNodes, Advanced, Standing, Going, Answered, Ended, Reached}
+use Rattle.extension.specs.Steps.{TableOf, Given, tableExtension, tableNodes, Advanced}
+use Rattle.search.specs.Progress.{Standing, Going, Answered, Ended, Reached}
 use Rattle.search.specs.Outcomes.{outcomeOf}
 use Rattle.search.specs.declared.Outcome.the-variants.{Found, Spent}
-use Rattle.search.proofs.Advances.{good-none}
+use Rattle.extension.proofs.Advances.{good-none}
 
 plus-one : (c : ℕ) → suc c ≡ c + 1
 plus-one c = omega arith

@@ -15,7 +15,7 @@ use Rattle.trellis.specs.Values.{values}
 use Rattle.trellis.specs.Keys.{Key, keySearch}
 use Rattle.trellis.specs.Demand.{Search, whole, supercode, trellis}
 use Rattle.trellis.specs.Trellis.{searched}
-use Rattle.search.specs.Steps.{Odd, Given, TableOf, tableOf}
+use Rattle.extension.specs.Steps.{Odd, Given, TableOf, tableOf}
 use Rattle.search.specs.Outcomes.{outcomeOf, codeOutcome, Searchable30, MasksFor}
 use Rattle.search.specs.declared.Outcome.{Outcome}
 use Rattle.trellis.proofs.Demand.{trellis-sound}

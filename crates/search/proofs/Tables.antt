@@ -7,7 +7,7 @@ use lib.IntN.{pos, natAbs}
 use lib.ListN.{getD}
 use Rattle.trellis.specs.Values.{Values, values, reading, doubt, branch}
 use Rattle.trellis.specs.Order.{bit}
-use Rattle.search.specs.Steps.{TableOf, tableOf}
+use Rattle.extension.specs.Steps.{TableOf, tableOf}
 
 pub table-of : (vs : Values) → TableOf vs (tableOf vs)
 table-of vs = record { entry = entry }

@@ -8,7 +8,7 @@ use Rattle.column.specs.Mask.{MasksOf}
 use Rattle.paths.specs.Search.{Outcome as OutcomeOf, answer, spent}
 use Rattle.trellis.specs.Keys.{Key}
 use Rattle.trellis.specs.Demand.{Search, whole, supercode}
-use Rattle.search.specs.Steps.{Odd}
+use Rattle.extension.specs.Steps.{Odd}
 use Rattle.search.specs.declared.Outcome.{Outcome}
 use Rattle.search.specs.declared.Outcome.the-variants.{Found, Spent}
 

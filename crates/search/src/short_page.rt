@@ -6,7 +6,7 @@ ghost use Rattle.trellis.specs.Values.{values as branchValues};
 ghost use Rattle.trellis.specs.Demand.{Search, trellis};
 ghost use Rattle.trellis.specs.Trellis.{searched};
 ghost use Rattle.stack.specs.Places.{Room};
-ghost use Rattle.search.specs.Steps.{tableOf};
+ghost use Rattle.extension.specs.Steps.{tableOf};
 ghost use Rattle.search.specs.Outcomes.{codeOutcome, Searchable30, MasksFor};
 use crate::Outcome;
 

@@ -6,8 +6,9 @@ use mir.Val.{toZ, SFits}
 use Rattle.heap.specs.Holds.{Holds}
 use Rattle.trellis.specs.Keys.{Key, key}
 use Rattle.stack.specs.Places.{at, Room, Upto}
-use Rattle.search.specs.Steps.{tableNodes, Standing, Going}
-use Rattle.search.proofs.Advances.{advanced-at}
+use Rattle.extension.specs.Steps.{tableNodes}
+use Rattle.search.specs.Progress.{Standing, Going}
+use Rattle.extension.proofs.Advances.{advanced-at}
 use Rattle.search.proofs.Continues.{going-start, going-next, answered, ended, standing-at, standing-next, standing-end, reached-by}
 use native.Mathlib.Omega.{arith}
 use Rattle.search.proofs.run.Statement.{statement}

@@ -4,9 +4,9 @@ use native.Mathlib.Omega.{arith}
 use borrow.Author.Needs.{needs}
 use lib.Bits.{bitAnd, and-le-l}
 use Rattle.column.specs.Mask.{parity}
-use Rattle.search.proofs.Folded.{folded-parity}
-use Rattle.search.proofs.parity_under.Statement.{statement}
-use Rattle.search.proofs.parity_under.Tie as tie
+use Rattle.extension.proofs.Folded.{folded-parity}
+use Rattle.extension.proofs.parity_under.Statement.{statement}
+use Rattle.extension.proofs.parity_under.Tie as tie
 
 cast-y : tie.Need-cast-y
 cast-y c = search needs

@@ -25,12 +25,12 @@ use Rattle.trellis.specs.Order.{bit}
 use Rattle.trellis.specs.Keys.{Key, key, keyPasses}
 use Rattle.trellis.proofs.Order.{bit-below}
 use Rattle.stack.specs.Places.{Upto, Small, Out}
-use Rattle.search.specs.Steps.{Given, Good, Held, tableExtension, tableNodes, Next, Advanced}
+use Rattle.extension.specs.Steps.{Given, Good, Held, tableExtension, tableNodes, Next, Advanced}
 use Rattle.stack.proofs.KeyOrder.{key-dec, upto-same, upto-anti, upto-trans}
 use Rattle.stack.proofs.Outs.{stay}
 use Rattle.stack.proofs.Sums.{add-near, near-fits}
-use Rattle.search.proofs.NextBit.{check, no-mask, let-in, dead-in, one-in, bit-less}
-use Rattle.search.proofs.Growing.{ordered-grow, weigh-full, weigh-none, weigh-one, weigh-both}
+use Rattle.extension.proofs.NextBit.{check, no-mask, let-in, dead-in, one-in, bit-less}
+use Rattle.extension.proofs.Growing.{ordered-grow, weigh-full, weigh-none, weigh-one, weigh-both}
 
 -- ---- keys
 

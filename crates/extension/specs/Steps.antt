@@ -1,5 +1,5 @@
--- What a search is given, what its keys are like, and what its steps do to the list that the heap holds. Assumes nothing.
-use mathlib.Core.Bool.{Bool, cond}
+-- What a search is given, what its keys are like, and what a step does to the list that the heap holds. Assumes nothing.
+use mathlib.Core.Bool.{Bool}
 use mathlib.Core.List.{List, [], _∷_}
 use mathlib.Core.Logic.{_⊎_}
 use mathlib.Core.Path.{_≡_}
@@ -8,8 +8,6 @@ use lib.Dec.{eqb}
 use lib.IntN.{ℤ, pos, natAbs, _+ℤ_}
 use lib.ListN.{length, getD}
 use Rattle.paths.specs.Stack.{Nodes, grow}
-use Rattle.paths.specs.Search.{answer, spent}
-use Rattle.paths.specs.Keys.{run-keys}
 use Rattle.heap.specs.Heap.{weigh, Every, Heap}
 use Rattle.heap.specs.Holds.{Holds}
 use Rattle.trellis.specs.Values.{Values, branch}
@@ -80,41 +78,3 @@ pub record Advanced (N : Nodes Key) (size : ℕ) (f₀ f : ℕ → Key) (n m : �
   pub none : y .len ≡ 0 → m ≡ 0
   pub lists : (xs : List Key) → Holds Upto f₀ n xs
       → ((y .len ≡ 0) × (grow N p xs ≡ [])) ⊎ ((0 < y .len) × (rest : List Key) × (grow N p xs ≡ y ∷ rest) × Holds Upto f m rest)
-
--- A search stands: `paths` keys in the heap, `count` taken, the last of them known.
-pub record Standing (size : ℕ) (f : ℕ → Key) (paths count : ℕ) (last : Key) : Type 0 where
-  pub few : paths ≤ count
-  pub heap : Heap Upto f paths
-  pub held : Every (Held size) f paths
-  pub good : Good size last
-
--- From c taken, p the last, xs on the stack, to c′ taken, p′ the last, and the heap's list on the stack: no word was taken but perhaps p′.
-module _ (N : Nodes Key) (size limit : ℕ) (f : ℕ → Key) (c : ℕ) (p : Key) (xs : List Key) (m c′ : ℕ) (p′ : Key) where
-  -- no word was taken on the way: every run goes on from there
-  pub record Going : Type 0 where
-    pub rest : List Key
-    pub holds : Holds Upto f m rest
-    pub later : c ≤ c′
-    pub within : (c′ ≤ limit) ⊎ (c′ ≡ c)
-    pub partial : (p′ .len < size) ⊎ (p′ ≡ p)
-    pub same : (accept : Key → Bool) (fuel : ℕ) → run-keys N accept (fuel + (c′ - c)) c (grow N p xs) ≡ run-keys N accept fuel c′ (grow N p′ rest)
-
-  -- p′ is a word, the first taken: every run that accepts it answers it, and every other goes on from there
-  pub record Answered : Type 0 where
-    pub rest : List Key
-    pub holds : Holds Upto f m rest
-    pub later : c < c′
-    pub within : c′ ≤ limit
-    pub full : p′ .len ≡ size
-    pub same : (accept : Key → Bool) (fuel : ℕ) → run-keys N accept (fuel + (c′ - c)) c (grow N p xs) ≡ cond (accept p′) (answer p′ c′) (run-keys N accept fuel c′ (grow N p′ rest))
-
-  -- the stack is empty: every run ends there
-  pub record Ended : Type 0 where
-    pub later : c ≤ c′
-    pub within : c′ < limit
-    pub none : p′ .len ≡ 0
-    pub same : (accept : Key → Bool) (fuel : ℕ) → run-keys N accept (fuel + (c′ - c)) c (grow N p xs) ≡ spent c′
-
-  -- the limit is reached, or a word is taken, or the stack is empty
-  pub record Reached : Type 0 where
-    pub way : ((limit ≤ c′) × Going) ⊎ (Answered ⊎ Ended)

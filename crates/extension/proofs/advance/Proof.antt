@@ -5,14 +5,14 @@ use lib.ListN.{getD}
 use mir.Syntax.{w16}
 use mir.Val.{toZ, ofZ, SFits}
 use Rattle.trellis.specs.Keys.{key}
-use Rattle.search.specs.Steps.{Good, Held, tableExtension}
+use Rattle.extension.specs.Steps.{Good, Held, tableExtension}
 use Rattle.stack.proofs.Sums.{sum-fits, sum-back}
-use Rattle.search.proofs.NextBit.{bit-less}
-use Rattle.search.proofs.Advances.{good-small, held-small, good-double, risen-held, flag, sum-near, extension-is, held-extension, advanced-at, advanced-full, advanced-both, advanced-dead, advanced-one}
+use Rattle.extension.proofs.NextBit.{bit-less}
+use Rattle.extension.proofs.Advances.{good-small, held-small, good-double, risen-held, flag, sum-near, extension-is, held-extension, advanced-at, advanced-full, advanced-both, advanced-dead, advanced-one}
 use native.Mathlib.Omega.{arith}
 use borrow.Author.Needs.{needs}
-use Rattle.search.proofs.advance.Statement.{statement}
-use Rattle.search.proofs.advance.Tie as tie
+use Rattle.extension.proofs.advance.Statement.{statement}
+use Rattle.extension.proofs.advance.Tie as tie
 
 -- ---- what the places share
 

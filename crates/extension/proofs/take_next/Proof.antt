@@ -1,10 +1,10 @@
 use mathlib.Core.Logic.{inl, inr}
 use mathlib.Core.Path.{refl}
-use Rattle.search.proofs.Advances.{next-at}
+use Rattle.extension.proofs.Advances.{next-at}
 use native.Mathlib.Omega.{arith}
 use borrow.Author.Needs.{needs}
-use Rattle.search.proofs.take_next.Statement.{statement}
-use Rattle.search.proofs.take_next.Tie as tie
+use Rattle.extension.proofs.take_next.Statement.{statement}
+use Rattle.extension.proofs.take_next.Tie as tie
 
 returns : tie.Need-returns
 returns c = (c .before .pre .1 .0, record { next = inl ((c .if1 .taken, refl, refl)) })

@@ -8,8 +8,8 @@ use mir.Facts.{toZ-ofZ}
 use lib.Bits.{bitXor, xor-block, xor-zero-r}
 use native.Mathlib.Omega.{arith}
 use borrow.Author.Needs.{needs}
-use Rattle.search.proofs.other_value.Statement.{statement}
-use Rattle.search.proofs.other_value.Tie as tie
+use Rattle.extension.proofs.other_value.Statement.{statement}
+use Rattle.extension.proofs.other_value.Tie as tie
 
 exchanged : (t : ℕ) → t < 2 → bitXor t 1 ≡ 1 - t
 exchanged zero h = refl

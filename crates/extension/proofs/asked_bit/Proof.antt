@@ -4,8 +4,8 @@ use lib.Dec.{eqb}
 use lib.Bits.{bitOr}
 use mathlib.Core.Bool.{cond}
 use native.Mathlib.Omega.{arith}
-use Rattle.search.proofs.asked_bit.Statement.{statement}
-use Rattle.search.proofs.asked_bit.Tie as tie
+use Rattle.extension.proofs.asked_bit.Statement.{statement}
+use Rattle.extension.proofs.asked_bit.Tie as tie
 
 or-bits : (u v : ℕ) → u < 2 → v < 2 → bitOr u v ≡ cond (eqb u 0) v 1
 or-bits zero zero a b = refl

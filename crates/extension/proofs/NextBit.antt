@@ -10,7 +10,7 @@ use lib.Count.{ones, ones-step}
 use borrow.Author.Tests.{eqb-true, eq-eqb, ne-eqb, eqb-false}
 use Rattle.column.specs.Mask.{parity}
 use Rattle.column.proofs.Parity.{parity-no-mask}
-use Rattle.search.specs.Steps.{Odd}
+use Rattle.extension.specs.Steps.{Odd}
 
 -- one digit more
 ones-digit : (x r : ℕ) → r < 2 → ones (x * 2 + r) ≡ r + ones x

@@ -1,0 +1,4 @@
+pub mod NextBit
+pub mod Growing
+pub mod Folded
+pub mod Advances
