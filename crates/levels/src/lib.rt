@@ -10,8 +10,7 @@ ghost use Rattle.concatenated.specs.Arrays.{SoftColumns};
 ghost use Rattle.readings.specs.Steps.{searchOf};
 ghost use Rattle.levels.specs.Levels.{LevelDone, ColumnsDone};
 use coding::data;
-use readings::reading;
-use readings::rows;
+use softpage::rows;
 
 // What a level gives: its row, the flags of its changed and erased columns, its steps; or no word was in reach.
 pub struct LevelOut {
@@ -45,7 +44,7 @@ fn decode_level(
 {
     let mut symbols = [0u8; 63];
     let mut marks = [0u8; 63];
-    let count = reading::read_row(
+    let count = readings::read_row(
         &*work,
         level,
         limit,

@@ -15,8 +15,8 @@ ghost use Rattle.page.specs.Outcomes.{outcomeOf, dataAfter};
 use coding::data;
 use coding::writing;
 use levels::ColumnsOutcome;
-use readings::look;
-use readings::totals;
+use softpage::look;
+use softpage::totals;
 
 // What page decoding gives: number 0 with the steps and how many columns each level changed and erased; or number 10 with the level as the place.
 pub struct PageOutcome {

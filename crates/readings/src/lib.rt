@@ -1,5 +1,106 @@
-// What a level of page decoding does to the columns: looking them up (`look`), reading them (`reading`), taking the row's level words off (`rows`), and the report's totals.
-pub mod look;
-pub mod reading;
-pub mod rows;
-pub mod totals;
+// The reading of a level: each column is searched, re-imaged and marked.
+ghost use mathlib.Core.List.{map};
+ghost use mathlib.Core.Path.{_≡_};
+ghost use Prim.Native.Nat.{_<_, _≤_};
+ghost use lib.ListN.{length};
+ghost use Rattle.column.specs.Shape.{short};
+ghost use Rattle.trellis.specs.Values.{values};
+ghost use Rattle.extension.specs.Steps.{tableOf};
+ghost use Rattle.stack.specs.Places.{Room};
+ghost use Rattle.search.specs.Outcomes.{MasksFor};
+ghost use Rattle.concatenated.specs.Decode.{symbol, mark, count};
+ghost use Rattle.concatenated.specs.Readers.{shortReader};
+ghost use Rattle.concatenated.specs.Flags.{flag};
+ghost use Rattle.concatenated.specs.Arrays.{SoftColumns};
+ghost use Rattle.readings.specs.Steps.{searchOf, asReading, WordInRange, RowRead};
+use search::Outcome;
+
+pub struct Masks {
+    left: [u64; 30],
+    right: [u64; 30],
+}
+
+pub struct Entry {
+    symbol: u8,
+    mark: u8,
+    count: u64,
+}
+
+// The masks of either search at a level.
+fn masks_of(level: usize, in_supercodes: bool) -> Masks
+    requires { ⌜ level < 4 ⌝ }
+    ensures { λ r. ⌜ MasksFor (searchOf in_supercodes) level (r .left) (r .right) × (length (r .left) ≡ 30) × (length (r .right) ≡ 30) ⌝ }
+{
+    if in_supercodes {
+        return Masks {
+            left: column::masks::left_masks(level),
+            right: column::masks::right_masks(level),
+        };
+    }
+    Masks {
+        left: column::masks::level_masks(level),
+        right: column::masks::no_masks(),
+    }
+}
+
+// What a column enters the row with: the symbol that its word re-images to, or 0 and a mark.
+fn enter(level: usize, limit: u64, found: Outcome) -> Entry
+    requires { ⌜ (level < 4) × WordInRange found ⌝ }
+    ensures { λ r. ⌜ (r .symbol ≡ symbol short level (asReading limit found)) × (r .mark ≡ flag (mark (asReading limit found))) × (r .count ≡ count (asReading limit found)) ⌝ }
+{
+    match found {
+        Outcome::Found { word, count } => Entry {
+            symbol: column::reimage(word, level) as u8,
+            mark: 0,
+            count: count,
+        },
+        Outcome::Spent => Entry {
+            symbol: 0,
+            mark: 1,
+            count: limit,
+        },
+    }
+}
+
+// Searches each column at a level: writes the symbols of the row and the flags of its erased columns, and gives the steps.
+pub fn read_row(
+    work: &[[u8; 30]; 63],
+    level: usize,
+    limit: u64,
+    in_supercodes: bool,
+    table: &[i16; 16],
+    sums: &mut [i16; 2002],
+    lens: &mut [u8; 2002],
+    bits: &mut [u64; 2002],
+    symbols: &mut [u8; 63],
+    marks: &mut [u8; 63],
+) -> u64
+    requires { ⌜ (level < 4) × (limit ≤ 2000) × SoftColumns (now work) × (now table ≡ tableOf values) × Room (now sums) (now lens) (now bits) × (length (now symbols) ≡ 63) × (length (now marks) ≡ 63) ⌝ }
+    ensures { λ r. ⌜ RowRead level (map (shortReader (searchOf in_supercodes) limit level) (now (work .entry))) (now (symbols .exit)) (now (marks .exit)) r
+        × Room (now (sums .exit)) (now (lens .exit)) (now (bits .exit)) ⌝ }
+{
+    let masks = masks_of(level, in_supercodes);
+    let left = masks.left;
+    let right = masks.right;
+    let mut sum: u64 = 0;
+    let mut j: usize = 0;
+    while j < 63 {
+        let column = work[j];
+        let found = search::short_page::search_column(
+            &mut *sums,
+            &mut *lens,
+            &mut *bits,
+            &column,
+            &left,
+            &right,
+            table,
+            limit,
+        );
+        let e = enter(level, limit, found);
+        symbols[j] = e.symbol;
+        marks[j] = e.mark;
+        sum += e.count;
+        j += 1;
+    }
+    sum
+}

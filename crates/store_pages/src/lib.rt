@@ -83,5 +83,5 @@ pub fn column_of(page: &[u8], j: usize) -> &[u8]
     ensures { λ r. ⌜ now r ≡ columnPart shortPage (now (page .entry)) j ⌝ }
     ensures { λ r. ⌜ (length (now (page .entry)) ≡ 1890 → j < 63 → placedAt (r .ptr) (page .entry .ptr) (j * 30)) ⌝ }
 {
-    readings::look::column_of(page, j)
+    softpage::look::column_of(page, j)
 }

@@ -1,0 +1,53 @@
+-- `readings::reading::enter` meets its contract: the outcome's two cases. Assumes nothing.
+use mathlib.Core.Path.{sym, ap, _∙_, subst}
+use Rattle.column.specs.Shape.{short}
+use Rattle.column.proofs.Levels.{reimaged-lt}
+use Rattle.column.proofs.Short.{sound}
+use Rattle.search.specs.declared.Outcome.{Outcome}
+use Rattle.concatenated.specs.Decode.{symbol, mark, count}
+use Rattle.concatenated.specs.Flags.{flag}
+use Rattle.readings.specs.Steps.{asReading, WordInRange}
+use native.Mathlib.Omega.{arith}
+use borrow.Author.Needs.{needs}
+use Rattle.readings.proofs.enter.Statement.{statement}
+use Rattle.readings.proofs.enter.Tie as tie
+
+enum-known-found : tie.Need-enum-known-found
+enum-known-found c = search needs
+
+reimage-requires : tie.Need-reimage-requires
+reimage-requires c κs =
+    let start = c .before .before .before in
+    (start .pre .0, subst WordInRange (c .before .found .given .1) (start .pre .1))
+
+cast-t8 : tie.Need-cast-t8
+cast-t8 c =
+    let start = c .before .before .before .before in
+    record { fits = omega (arith, c .reimage .ensures, reimaged-lt short sound _ _ (start .pre .0) (subst WordInRange (c .before .before .found .given .1) (start .pre .1))) }
+
+enum-told : tie.Need-enum-told
+enum-told c = search needs
+
+returns : tie.Need-returns
+unfolding symbol mark count
+returns c =
+    let start = c .before .before .before .before in
+    let e = sym (c .before .before .found .given .1) in (
+      c .reimage .ensures ∙ ap (λ (x : Outcome). symbol short (start .args .level) (asReading (start .args .limit) x)) e,
+      ap (λ (x : Outcome). flag (mark (asReading (start .args .limit) x))) e,
+      ap (λ (x : Outcome). count (asReading (start .args .limit) x)) e,
+    )
+
+returns-2 : tie.Need-returns-2
+unfolding symbol mark count
+returns-2 c =
+    let start = c .before .before in
+    let e = sym (c .enum-told .given .1) in (
+      ap (λ (x : Outcome). symbol short (start .args .level) (asReading (start .args .limit) x)) e,
+      ap (λ (x : Outcome). flag (mark (asReading (start .args .limit) x))) e,
+      ap (λ (x : Outcome). count (asReading (start .args .limit) x)) e,
+    )
+
+pub enter-spec : {M : Type 1} → statement M
+enter-spec =
+    tie.close (tie.spec enum-known-found reimage-requires cast-t8 enum-told returns returns-2)

@@ -1,0 +1,132 @@
+-- `readings::reading::read_row` meets its contract: the first j columns are read, and the search's arrays keep their room. Assumes nothing.
+use mathlib.Core.Path.{_≡_, sym, ap, _∙_}
+use Prim.Native.Nat.{_-_, _<_, _≤_}
+use mathlib.Core.List.{[]}
+use lib.ListN.{length, getD}
+use Rattle.stack.specs.Places.{Room}
+use Rattle.concatenated.specs.Decode.{count}
+use Rattle.concatenated.specs.SoftPage.{Soft}
+use Rattle.concatenated.specs.Readers.{shortReader}
+use Rattle.readings.specs.Steps.{searchOf}
+use Rattle.concatenated.proofs.Lists.{all-at}
+use Rattle.readings.proofs.RowReading.{RowFilling, nothing-read, one-more-read, all-read, reads-it, word-in-range, count-within-the-limit, column-searchable}
+use native.Mathlib.Omega.{arith}
+use borrow.Author.Needs.{needs}
+use Rattle.readings.proofs.read_row.Statement.{statement}
+use Rattle.readings.proofs.read_row.Tie as tie
+
+abbrev Inv-loop : tie.InvT-loop
+Inv-loop work level limit in-supercodes table sums₀ lens₀ bits₀ symbols₀ marks₀ left right sum₀ j₀ sums lens bits symbols marks sum j = RowFilling level (shortReader (searchOf in-supercodes) limit level) work symbols marks sum j × Room sums lens bits
+
+abbrev μ-loop : tie.MeasureT-loop
+μ-loop work level limit in-supercodes table sums₀ lens₀ bits₀ symbols₀ marks₀ left right sum₀ j₀ sums lens bits symbols marks sum j = 63 - j
+
+masks-of-requires : tie.Need-masks-of-requires Inv-loop μ-loop
+masks-of-requires c κs = search needs
+
+loop-holds : tie.Need-loop-holds Inv-loop μ-loop
+loop-holds c =
+    let start = c .before .before .before in
+    (nothing-read _ _ _ _ _ (start .pre .2 .many) (start .pre .5) (start .pre .6), start .pre .4)
+
+mul-column : tie.Need-mul-column Inv-loop μ-loop
+mul-column c = search needs
+
+element-copy-out-column : tie.Need-element-copy-out-column Inv-loop μ-loop
+element-copy-out-column c = search needs
+
+slice-aggregate-search-column : tie.Need-slice-aggregate-search-column Inv-loop μ-loop
+slice-aggregate-search-column c =
+    let turn = c .before .before .before .before .before .before in
+    let start = turn .before .before .before .before in
+    let work = start .args .work .now in
+    let long : turn .loop .j < length work = omega (arith, start .pre .2 .many, c .before .before .before .before .before .loop-test .taken) in
+    sym (all-at (λ x. (length x ≡ 30) × Soft x) work (turn .loop .j) [] (start .pre .2 .soft) long .0)
+
+slice-aggregate-search-column-2 : tie.Need-slice-aggregate-search-column-2 Inv-loop μ-loop
+slice-aggregate-search-column-2 c = search needs
+
+slice-aggregate-search-column-3 : tie.Need-slice-aggregate-search-column-3 Inv-loop μ-loop
+slice-aggregate-search-column-3 c = search needs
+
+search-column-requires : tie.Need-search-column-requires Inv-loop μ-loop
+search-column-requires c κs =
+    let turn = c .before .before .before .before .before .before .before .before in
+    let made = turn .before .before .before in
+    let start = made .before in
+    let work = start .args .work .now in
+    let j = turn .loop .j in
+    let long : j < length work = omega (arith, start .pre .2 .many, c .before .before .before .before .before .before .before .loop-test .taken) in
+    let masks = made .masks-of .ensures in
+    (start .pre .1, (start .pre .3, (column-searchable (searchOf (start .args .in-supercodes)) (start .args .level) (start .pre .0) _ _ _ (all-at (λ x. (length x ≡ 30) × Soft x) work j [] (start .pre .2 .soft) long) (masks .0) (masks .1) (masks .2), turn .loop .inv .1)))
+
+enter-requires : tie.Need-enter-requires Inv-loop μ-loop
+enter-requires c κs =
+    let made = c .before .before .before .before .before .before .before .before .before .before .before .before in
+    let start = made .before in
+    let kind = searchOf (start .args .in-supercodes) in
+    (start .pre .0, word-in-range kind _ (start .args .level) (start .pre .0) _ (c .search-column .result) (c .search-column .ensures .1 kind (start .args .level) (start .pre .0) (made .masks-of .ensures .0)))
+
+element-write-symbols : tie.Need-element-write-symbols Inv-loop μ-loop
+element-write-symbols c = search needs
+
+element-write-marks : tie.Need-element-write-marks Inv-loop μ-loop
+element-write-marks c = search needs
+
+add-sum : tie.Need-add-sum Inv-loop μ-loop
+add-sum c =
+    let found = c .before .before in
+    let turn = found .before .before .before .before .before .before .before .before .before in
+    let made = turn .before .before .before in
+    let start = made .before in
+    let kind = searchOf (start .args .in-supercodes) in
+    let read = reads-it kind (start .args .limit) (start .args .level) (start .pre .0) _ (found .search-column .result) (found .search-column .ensures .1 kind (start .args .level) (start .pre .0) (made .masks-of .ensures .0)) in
+    let few = count-within-the-limit kind (start .args .limit) (start .args .level) (start .pre .0) (getD (start .args .work .now) (turn .loop .j) []) in
+    let j63 = found .before .before .before .before .before .before .before .before .loop-test .taken in
+    record { fits = omega (arith, c .before .enter .ensures .2 ∙ ap count read, few, start .pre .1, turn .loop .inv .0 .few, j63) }
+
+add-j : tie.Need-add-j Inv-loop μ-loop
+add-j c = search needs
+
+loop-less : tie.Need-loop-less Inv-loop μ-loop
+loop-less c = search needs
+
+loop-again : tie.Need-loop-again Inv-loop μ-loop
+loop-again c =
+    let found = c .before .before in
+    let turn = found .before .before .before .before .before .before .before .before .before in
+    let made = turn .before .before .before in
+    let start = made .before in
+    let kind = searchOf (start .args .in-supercodes) in
+    let read = reads-it kind (start .args .limit) (start .args .level) (start .pre .0) _ (found .search-column .result) (found .search-column .ensures .1 kind (start .args .level) (start .pre .0) (made .masks-of .ensures .0)) in
+    let within = count-within-the-limit kind (start .args .limit) (start .args .level) (start .pre .0) (getD (start .args .work .now) (turn .loop .j) []) in
+    let j63 = found .before .before .before .before .before .before .before .before .loop-test .taken in
+    let entry = c .before .enter .ensures in
+    let few : c .before .enter .result .count ≤ 2000 = omega (arith, entry .2 ∙ ap count read, within, start .pre .1) in
+    (one-more-read _ _ _ _ _ _ _ _ _ _ _ (turn .loop .inv .0) j63 read (entry .0) (entry .1) (entry .2) few, found .search-column .ensures .0)
+
+returns : tie.Need-returns Inv-loop μ-loop
+returns c = (all-read _ _ _ _ _ _ _ (c .before .loop .inv .0) (c .loop-test .left), c .before .loop .inv .1)
+
+pub read-row-spec : {M : Type 1} → statement M
+read-row-spec =
+    tie.close
+    (tie.spec
+    Inv-loop
+    μ-loop
+    masks-of-requires
+    loop-holds
+    mul-column
+    element-copy-out-column
+    slice-aggregate-search-column
+    slice-aggregate-search-column-2
+    slice-aggregate-search-column-3
+    search-column-requires
+    enter-requires
+    element-write-symbols
+    element-write-marks
+    add-sum
+    add-j
+    loop-less
+    loop-again
+    returns)
