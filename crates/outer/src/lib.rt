@@ -1,7 +1,5 @@
 // The outer code of the short page: 01, "Rows and page". A row is a Reed-Solomon word of 63 symbols over the field of 64 elements.
 // The answers are defined in reedsolomon's specs/Row.antt; the theory there holds for every field of characteristic 2.
-mod correct;
-
 ghost use mathlib.Core.Path.{_≡_};
 ghost use Prim.Native.Nat.{_+_, _≤_};
 ghost use lib.ListN.{length};
@@ -39,11 +37,11 @@ pub fn decode(symbols: &[u8], marks: &[u8], t: usize, out: &mut [u8]) -> bool
         lists::put(&w, 63, 0, out);
         return true;
     }
-    let f = correct::corrected(w, marks, s, t, n);
+    let f = correction::corrected(w, marks, s, t, n);
     let v = f.symbols;
     let c = f.syndromes;
     if lists::all_zero(&c, t) {
-        let e = correct::wrong(&w, &v, marks);
+        let e = correction::wrong(&w, &v, marks);
         if 2 * e + n <= t {
             lists::put(&v, 63, 0, out);
             return true;

@@ -33,7 +33,7 @@ pub struct Row {
 }
 
 // The row with its suspects corrected.
-pub(crate) fn corrected(w: [u8; 64], marks: &[u8], s: [u8; 33], t: usize, n: usize) -> Row
+pub fn corrected(w: [u8; 64], marks: &[u8], s: [u8; 33], t: usize, n: usize) -> Row
     requires { ⌜ (63 ≤ length (now marks)) × (t ≤ 30) × (n ≤ t) × (n ≡ count (marked (now marks)) 63) × Padded 6 63 w × HasSyndromes 6 67 63 t w s ⌝ }
     ensures { λ r. ⌜ IsCorrection 6 67 63 t (now (marks .entry)) w (r .symbols) × HasSyndromes 6 67 63 t (r .symbols) (r .syndromes) ⌝ }
 {
@@ -59,7 +59,7 @@ fn differs(mark: u8, a: u8, b: u8) -> u8
 }
 
 // In how many columns that are not erased two rows differ.
-pub(crate) fn wrong(w: &[u8], v: &[u8], marks: &[u8]) -> usize
+pub fn wrong(w: &[u8], v: &[u8], marks: &[u8]) -> usize
     requires { ⌜ (63 ≤ length (now w)) × (63 ≤ length (now v)) × (63 ≤ length (now marks)) ⌝ }
     ensures { λ r. ⌜ r ≡ errors ℕ-discrete (marked (now (marks .entry))) 63 (symbol (now (w .entry))) (symbol (now (v .entry))) ⌝ }
 {

@@ -5,8 +5,8 @@ use Rattle.field.proofs.Short.{field64}
 use Rattle.reedsolomon.proofs.Correcting.{suspects-by-locator}
 use native.Mathlib.Omega.{arith}
 use borrow.Author.Needs.{needs}
-use Rattle.outer.proofs.correct.suspected.Statement.{statement}
-use Rattle.outer.proofs.correct.suspected.Tie as tie
+use Rattle.correction.proofs.suspected.Statement.{statement}
+use Rattle.correction.proofs.suspected.Tie as tie
 
 slice-aggregate-strip : tie.Need-slice-aggregate-strip
 slice-aggregate-strip c = search needs

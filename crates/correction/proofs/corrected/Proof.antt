@@ -7,8 +7,8 @@ use Rattle.reedsolomon.specs.Row.{marked}
 use Rattle.reedsolomon.proofs.Correcting.{correction-by-amounts, syndromes-of-corrected, suspects-bounded, syndromes-inside}
 use native.Mathlib.Omega.{arith}
 use borrow.Author.Needs.{needs}
-use Rattle.outer.proofs.correct.corrected.Statement.{statement}
-use Rattle.outer.proofs.correct.corrected.Tie as tie
+use Rattle.correction.proofs.corrected.Statement.{statement}
+use Rattle.correction.proofs.corrected.Tie as tie
 
 suspected-requires : tie.Need-suspected-requires
 suspected-requires c κs =

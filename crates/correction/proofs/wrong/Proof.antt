@@ -7,8 +7,8 @@ use Rattle.reedsolomon.specs.Row.{symbol, marked}
 use Rattle.reedsolomon.proofs.Marks.{none-wrong, wrongs-at-most, one-more-compared}
 use native.Mathlib.Omega.{arith}
 use borrow.Author.Needs.{needs}
-use Rattle.outer.proofs.correct.wrong.Statement.{statement}
-use Rattle.outer.proofs.correct.wrong.Tie as tie
+use Rattle.correction.proofs.wrong.Statement.{statement}
+use Rattle.correction.proofs.wrong.Tie as tie
 
 abbrev Inv-loop : tie.InvT-loop
 Inv-loop w v marks e₀ j₀ e j = (j ≤ 63) × (e ≡ errors ℕ-discrete (marked marks) j (symbol w) (symbol v))

@@ -5,8 +5,8 @@ use native.Mathlib.Decide.{ℕ-discrete}
 use borrow.Author.Tests.{eq-eqb, ne-eqb}
 use Rattle.reedsolomon.specs.Words.{wrong}
 use Rattle.reedsolomon.proofs.Counting.{unequal-of-equal, unequal-of-different}
-use Rattle.outer.proofs.correct.differs.Statement.{statement}
-use Rattle.outer.proofs.correct.differs.Tie as tie
+use Rattle.correction.proofs.differs.Statement.{statement}
+use Rattle.correction.proofs.differs.Tie as tie
 
 returns : tie.Need-returns
 unfolding wrong
