@@ -4,7 +4,7 @@
 # Proves the named crates and what they rest on, with a line of progress for each crate.
 define prove
 @mkdir -p target
-@{ RT_JOBS=4 rt check $(1) 2>&1; echo $$? > target/prove.status; } | tee target/prove.log | grep --line-buffered '^rt: [a-z0-9_]* proved'; \
+@{ RT_JOBS=6 rt check $(1) 2>&1; echo $$? > target/prove.status; } | tee target/prove.log | grep --line-buffered '^rt: [a-z0-9_]* proved'; \
 [ "$$(cat target/prove.status)" = 0 ] || { cat target/prove.log; exit 1; }
 endef
 
@@ -13,7 +13,7 @@ test: tools listed
 	@tests/run-vectors tests/vectors tests/libfec tests/known
 	@tests/run-station
 	@tests/run-readpage
-	@RT_JOBS=4 rt ci
+	@RT_JOBS=6 rt ci
 
 run: tools
 	$(call prove,readpage)
