@@ -22,7 +22,7 @@ pub fn write_dump(soft: &[u8], out: &mut [u8]) -> Outcome
     if bad < 1890 {
         return Outcome::Refused(5, bad as u64);
     }
-    dump::write(soft, out);
+    blocks::write(soft, out);
     Outcome::Done
 }
 
@@ -31,11 +31,11 @@ fn ask_block(dump: &[u8], b: usize) -> u64
     requires { ⌜ (length (now dump) ≡ 2048) × (b < 4) ⌝ }
     ensures { λ r. ⌜ r ≡ number (askFixed (now (dump .entry)) b (askCheck (now (dump .entry)) b Done)) ⌝ }
 {
-    let block = dump::block_at(dump, b);
-    if !dump::fixed_right(block, b) {
+    let block = blocks::block_at(dump, b);
+    if !blocks::fixed_right(block, b) {
         return 7;
     }
-    if !dump::check_right(block) {
+    if !blocks::check_right(block) {
         return 8;
     }
     0
@@ -69,11 +69,11 @@ pub fn read_dump(dump: &[u8], out: &mut [u8]) -> Outcome
         return Outcome::Refused(fourth, 3);
     }
     let mut values = [0u8; 1890];
-    dump::read(dump, &mut values);
+    blocks::read(dump, &mut values);
     let bad = questions::first_above(&values, 7);
     if bad < 1890 {
         return Outcome::Refused(5, bad as u64);
     }
-    dump::read(dump, out);
+    blocks::read(dump, out);
     Outcome::Done
 }

@@ -1,14 +1,14 @@
--- `dump::check_of` meets its contract. The loop's invariant: the running sum is the weighted sum of the bytes passed, modulo 65,536. Assumes nothing.
+-- `blocks::check_of` meets its contract. The loop's invariant: the running sum is the weighted sum of the bytes passed, modulo 65,536. Assumes nothing.
 use mathlib.Core.Path.{_≡_, _∙_, ap, ap₂}
 use Prim.Native.Nat.{ℕ, _≤_, _+_, _*_, _-_, _%_}
 use native.Mathlib.Nat.{mul-le-mul}
 use native.Mathlib.Omega.{arith}
 use borrow.Author.Needs.{needs}
 use lib.ListN.{getD}
 use Rattle.dump.specs.Check.{weighted}
 use Rattle.dump.proofs.Check.{weighted-more}
-use Rattle.dump.proofs.check_of.Statement.{statement}
-use Rattle.dump.proofs.check_of.Tie as tie
+use Rattle.blocks.proofs.check_of.Statement.{statement}
+use Rattle.blocks.proofs.check_of.Tie as tie
 
 abbrev Inv-loop : tie.InvT-loop
 Inv-loop block sum₀ weight₀ k₀ sum weight k = (k ≤ 510) × (weight ≡ k + 1) × (sum ≡ weighted block k % 65536)

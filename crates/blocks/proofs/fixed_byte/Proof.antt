@@ -1,9 +1,9 @@
--- `dump::fixed_byte` meets its contract: each return rewrites with the tests that led there. Assumes nothing.
+-- `blocks::fixed_byte` meets its contract: each return rewrites with the tests that led there. Assumes nothing.
 use borrow.Author.Tests.{eq-eqb, ne-eqb}
 use borrow.Author.Needs.{needs}
 use Rattle.dump.specs.Block.{fixedByte}
-use Rattle.dump.proofs.fixed_byte.Statement.{statement}
-use Rattle.dump.proofs.fixed_byte.Tie as tie
+use Rattle.blocks.proofs.fixed_byte.Statement.{statement}
+use Rattle.blocks.proofs.fixed_byte.Tie as tie
 
 returns : tie.Need-returns
 unfolding fixedByte

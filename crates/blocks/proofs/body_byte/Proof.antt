@@ -1,11 +1,11 @@
--- `dump::body_byte` meets its contract: each return rewrites with what `holds_value` and `fixed_byte` gave. Assumes nothing.
+-- `blocks::body_byte` meets its contract: each return rewrites with what `holds_value` and `fixed_byte` gave. Assumes nothing.
 use mathlib.Core.Path.{_∙_, sym}
 use native.Mathlib.Omega.{arith}
 use borrow.Author.Needs.{needs}
 use Rattle.dump.specs.Block.{bodyByte}
 use Rattle.dump.proofs.Places.{value-there}
-use Rattle.dump.proofs.body_byte.Statement.{statement}
-use Rattle.dump.proofs.body_byte.Tie as tie
+use Rattle.blocks.proofs.body_byte.Statement.{statement}
+use Rattle.blocks.proofs.body_byte.Tie as tie
 
 holds-value-requires : tie.Need-holds-value-requires
 holds-value-requires c κs = search needs

@@ -1,15 +1,15 @@
--- `dump::write` meets its contract. The loop's invariant: the blocks passed stand in front. Assumes nothing.
+-- `blocks::write` meets its contract. The loop's invariant: the blocks passed stand in front. Assumes nothing.
 use mathlib.Core.Path.{_≡_, _∙_, sym}
 use Prim.Native.Nat.{_≤_, _-_, _*_, _+_}
 use native.Mathlib.Omega.{arith}
 use borrow.Author.Needs.{needs}
 use lib.ListN.{length, take, drop}
 use lib.Seq.{take-all}
 use Rattle.dump.specs.Dump.{dumpOf, blockAt}
 use Rattle.dump.proofs.Blocks.{dump-length, block-of-dump}
 use Rattle.dump.proofs.Put.{put-more, put-length}
-use Rattle.dump.proofs.write.Statement.{statement}
-use Rattle.dump.proofs.write.Tie as tie
+use Rattle.blocks.proofs.write.Statement.{statement}
+use Rattle.blocks.proofs.write.Tie as tie
 
 abbrev Inv-loop : tie.InvT-loop
 Inv-loop soft out₀ b₀ out b = (b ≤ 4) × (length out ≡ 2048) × (take (b * 512) out ≡ take (b * 512) (dumpOf soft))

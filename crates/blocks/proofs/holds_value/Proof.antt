@@ -1,9 +1,9 @@
--- `dump::holds_value` meets its contract: each return rewrites with the tests that led there. Assumes nothing.
+-- `blocks::holds_value` meets its contract: each return rewrites with the tests that led there. Assumes nothing.
 use borrow.Author.Tests.{le-ltb, lt-ltb, le-leb, lt-leb}
 use borrow.Author.Needs.{needs}
 use Rattle.dump.specs.Block.{holdsValue}
-use Rattle.dump.proofs.holds_value.Statement.{statement}
-use Rattle.dump.proofs.holds_value.Tie as tie
+use Rattle.blocks.proofs.holds_value.Statement.{statement}
+use Rattle.blocks.proofs.holds_value.Tie as tie
 
 returns : tie.Need-returns
 unfolding holdsValue

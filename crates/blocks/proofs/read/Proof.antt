@@ -1,16 +1,16 @@
--- `dump::read` meets its contract. The loop's invariant: the values of the blocks passed stand in front. Assumes nothing.
+-- `blocks::read` meets its contract. The loop's invariant: the values of the blocks passed stand in front. Assumes nothing.
 use mathlib.Core.Path.{_≡_, _∙_, ap, sym}
 use Prim.Native.Nat.{ℕ, _≤_, _+_, _*_, _-_, _/_}
 use native.Mathlib.Omega.{arith}
 use borrow.Author.Needs.{needs}
 use lib.ListN.{length, take, drop}
 use lib.Seq.{take-all}
 use Rattle.dump.specs.Dump.{softOf}
 use Rattle.dump.specs.Parts.{valuesOf}
 use Rattle.dump.proofs.Blocks.{soft-length, values-of-block}
 use Rattle.dump.proofs.Put.{all-copied, put-more, put-length}
-use Rattle.dump.proofs.read.Statement.{statement}
-use Rattle.dump.proofs.read.Tie as tie
+use Rattle.blocks.proofs.read.Statement.{statement}
+use Rattle.blocks.proofs.read.Tie as tie
 
 -- how many values the blocks before b hold
 abbrev values-before : ℕ → ℕ

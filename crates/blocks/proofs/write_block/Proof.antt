@@ -1,18 +1,18 @@
--- `dump::write_block` meets its contract. The loop's invariant: the bytes passed stand in front. Assumes nothing.
+-- `blocks::write_block` meets its contract. The loop's invariant: the bytes passed stand in front. Assumes nothing.
 use mathlib.Core.Path.{_≡_, _∙_, sym, ap, ap₂}
 use mathlib.Core.List.{List, [], _∷_, _++_}
 use Prim.Native.Nat.{ℕ, _≤_, _-_, _/_, _%_}
 use native.Mathlib.Omega.{arith}
 use borrow.Author.Needs.{needs}
 use lib.ListN.{length, take, length-set}
 use Rattle.dump.specs.Check.{checkOf}
 use Rattle.dump.specs.Listed.{listed}
 use Rattle.dump.specs.Block.{bodyByte, bodyOf, blockOf}
 use Rattle.dump.proofs.Check.{weighted-take}
 use Rattle.dump.proofs.Listed.{filled-more}
 use Rattle.dump.proofs.LastTwo.{last-two-set}
-use Rattle.dump.proofs.write_block.Statement.{statement}
-use Rattle.dump.proofs.write_block.Tie as tie
+use Rattle.blocks.proofs.write_block.Statement.{statement}
+use Rattle.blocks.proofs.write_block.Tie as tie
 
 abbrev Inv-loop : tie.InvT-loop
 Inv-loop soft b out₀ k₀ out k = (k ≤ 510) × (length out ≡ 512) × (take k out ≡ listed (bodyByte soft b) k)

@@ -1,4 +1,4 @@
--- `dump::fixed_from` meets its contract. The loop's invariant: the bytes passed are right. Assumes nothing.
+-- `blocks::fixed_from` meets its contract. The loop's invariant: the bytes passed are right. Assumes nothing.
 use mathlib.Core.Path.{_≡_, _∙_, sym, ap}
 use mathlib.Core.Bool.{Bool, true}
 use mathlib.Core.List.{List}
@@ -8,12 +8,12 @@ use borrow.Author.Needs.{needs}
 use borrow.Author.Tests.{eq-eqb, ne-eqb}
 use lib.Dec.{eqb}
 use lib.ListN.{getD}
 use Rattle.dump.specs.Listed.{allBelow}
 use Rattle.dump.specs.Block.{fixedByte}
 use Rattle.dump.specs.Parts.{fixedFrom}
 use Rattle.dump.proofs.AllBelow.{all-more, all-not}
-use Rattle.dump.proofs.fixed_from.Statement.{statement}
-use Rattle.dump.proofs.fixed_from.Tie as tie
+use Rattle.blocks.proofs.fixed_from.Statement.{statement}
+use Rattle.blocks.proofs.fixed_from.Tie as tie
 
 abbrev fixed-at : List ℕ → ℕ → ℕ → ℕ → Bool
 fixed-at block b start k = eqb (getD block (start + k) 0) (fixedByte b (start + k))

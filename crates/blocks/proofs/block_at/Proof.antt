@@ -1,11 +1,11 @@
--- `dump::block_at` meets its contract: the part that it gives has 512 bytes. Assumes nothing.
+-- `blocks::block_at` meets its contract: the part that it gives has 512 bytes. Assumes nothing.
 use mathlib.Core.Path.{_≡_}
 use Prim.Native.Nat.{_+_, _*_, _-_}
 use native.Mathlib.Omega.{arith}
 use borrow.Author.Needs.{needs}
 use Rattle.dump.specs.Dump.{blockAt}
-use Rattle.dump.proofs.block_at.Statement.{statement}
-use Rattle.dump.proofs.block_at.Tie as tie
+use Rattle.blocks.proofs.block_at.Statement.{statement}
+use Rattle.blocks.proofs.block_at.Tie as tie
 
 mul-start : tie.Need-mul-start
 mul-start c = search needs

@@ -1,10 +1,10 @@
--- `dump::check_right` meets its contract: it compares the two numbers of the definition. Assumes nothing.
+-- `blocks::check_right` meets its contract: it compares the two numbers of the definition. Assumes nothing.
 use Prim.Native.Nat.{_≤_}
 use native.Mathlib.Omega.{arith}
 use borrow.Author.Needs.{needs}
 use Rattle.dump.specs.Block.{checkRight}
-use Rattle.dump.proofs.check_right.Statement.{statement}
-use Rattle.dump.proofs.check_right.Tie as tie
+use Rattle.blocks.proofs.check_right.Statement.{statement}
+use Rattle.blocks.proofs.check_right.Tie as tie
 
 shared-slice-read-wide : tie.Need-shared-slice-read-wide
 shared-slice-read-wide c = search needs

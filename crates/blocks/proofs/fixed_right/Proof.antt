@@ -1,12 +1,12 @@
--- `dump::fixed_right` meets its contract: what its two calls gave is the whole test. Assumes nothing.
+-- `blocks::fixed_right` meets its contract: what its two calls gave is the whole test. Assumes nothing.
 use mathlib.Core.Path.{_≡_, _∙_, sym}
 use mathlib.Core.Bool.{true, false}
 use borrow.Author.Needs.{needs}
 use borrow.Author.Tests.{not-true, not-false}
 use Rattle.dump.specs.Parts.{fixedFrom}
 use Rattle.dump.proofs.FixedParts.{fixed-in-parts}
-use Rattle.dump.proofs.fixed_right.Statement.{statement}
-use Rattle.dump.proofs.fixed_right.Tie as tie
+use Rattle.blocks.proofs.fixed_right.Statement.{statement}
+use Rattle.blocks.proofs.fixed_right.Tie as tie
 
 fixed-from-requires : tie.Need-fixed-from-requires
 fixed-from-requires c κs = search needs
