@@ -1,4 +1,4 @@
--- `outer::correct::corrected` meets its contract: what its steps ensure, put together. Assumes nothing.
+-- `correction::corrected` meets its contract: what its steps ensure, put together. Assumes nothing.
 use Prim.Native.Nat.{_≤_}
 use lib.Dec.{lit<}
 use Rattle.field.proofs.Short.{field64, primitive64}

@@ -1,4 +1,4 @@
--- `outer::correct::differs` meets its contract, branch by branch. Assumes nothing.
+-- `correction::differs` meets its contract, branch by branch. Assumes nothing.
 use mathlib.Core.Path.{sym, ap, _∙_}
 use mathlib.Core.Bool.{Bool}
 use native.Mathlib.Decide.{ℕ-discrete}

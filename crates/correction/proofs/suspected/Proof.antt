@@ -1,4 +1,4 @@
--- `outer::correct::suspected` meets its contract: what its steps ensure, put together. Assumes nothing.
+-- `correction::suspected` meets its contract: what its steps ensure, put together. Assumes nothing.
 use mathlib.Core.Path.{ap}
 use Prim.Native.Nat.{ℕ, _-_, _/_, _≤_}
 use Rattle.field.proofs.Short.{field64}

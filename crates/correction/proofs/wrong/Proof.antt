@@ -1,4 +1,4 @@
--- `outer::correct::wrong` meets its contract: one column a turn of the loop. Assumes nothing.
+-- `correction::wrong` meets its contract: one column a turn of the loop. Assumes nothing.
 use mathlib.Core.Path.{_≡_, ap, _∙_}
 use Prim.Native.Nat.{ℕ, _+_, _-_, _≤_}
 use native.Mathlib.Decide.{ℕ-discrete}

@@ -1,3 +1,4 @@
+-- `extension::advance` meets its contract. By the path's case: full, with no check, dead, or with the one bit that the checks ask for. Assumes nothing.
 use Prim.Native.Nat.{ℕ, _+_, _-_, _*_, _<_}
 use mathlib.Core.Path.{_≡_, refl, sym, _∙_, subst, subst⁻¹}
 use lib.IntN.{ℤ, pos, _+ℤ_}

@@ -1,3 +1,4 @@
+-- `extension::asked_bit` meets its contract. Assumes nothing.
 use Prim.Native.Nat.{ℕ, zero, suc, _<_}
 use mathlib.Core.Path.{_≡_, refl}
 use lib.Dec.{eqb}

@@ -1,3 +1,4 @@
+-- `extension::conflicting` meets its contract. Assumes nothing.
 use borrow.Author.Tests.{eq-eqb, ne-eqb}
 use Rattle.extension.proofs.conflicting.Statement.{statement}
 use Rattle.extension.proofs.conflicting.Tie as tie

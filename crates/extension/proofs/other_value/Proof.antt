@@ -1,4 +1,4 @@
--- `search::other_value` meets its contract: the place of the other bit's entry. Assumes nothing.
+-- `extension::other_value` meets its contract: the place of the other bit's entry. Assumes nothing.
 use mathlib.Core.Path.{_≡_, refl, ap, ap₂, _∙_}
 use Prim.Native.Nat.{ℕ, zero, suc, _+_, _-_, _*_, _<_}
 use lib.IntN.{pos}

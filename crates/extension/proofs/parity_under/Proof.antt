@@ -1,4 +1,4 @@
--- `search::parity_under` meets its contract: the parity of the folded word. Assumes nothing.
+-- `extension::parity_under` meets its contract: the parity of the folded word. Assumes nothing.
 use Prim.Native.Nat.{_/_, _^_, _<_, _≤_}
 use native.Mathlib.Omega.{arith}
 use borrow.Author.Needs.{needs}

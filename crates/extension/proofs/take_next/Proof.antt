@@ -1,3 +1,4 @@
+-- `extension::take_next` meets its contract: no path was there, or the first comes out. Assumes nothing.
 use mathlib.Core.Logic.{inl, inr}
 use mathlib.Core.Path.{refl}
 use Rattle.extension.proofs.Advances.{next-at}

@@ -1,3 +1,4 @@
+-- `extension::unchecked` meets its contract. Assumes nothing.
 use borrow.Author.Tests.{eq-eqb, ne-eqb}
 use Rattle.extension.proofs.unchecked.Statement.{statement}
 use Rattle.extension.proofs.unchecked.Tie as tie

@@ -1,4 +1,4 @@
--- `page::levels::decode_columns` meets its contract: the arrays hold what the run has given below the level. Assumes nothing.
+-- `levels::decode_columns` meets its contract: the arrays hold what the run has given below the level. Assumes nothing.
 use Prim.Native.Nat.{_-_}
 use Rattle.stack.specs.Places.{Room}
 use Rattle.concatenated.specs.Readers.{shortReader}

@@ -1,4 +1,4 @@
--- `page::levels::decode_level` meets its contract: by what outer decoding gave. Assumes nothing.
+-- `levels::decode_level` meets its contract: by what outer decoding gave. Assumes nothing.
 use mathlib.Core.Path.{_≡_, refl, sym, _∙_}
 use Prim.Native.Nat.{_-_}
 use mathlib.Core.List.{map}

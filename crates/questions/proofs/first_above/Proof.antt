@@ -1,4 +1,4 @@
--- `store::questions::first_above` meets its contract. The loop's invariant: the first bad value is none of those passed. Assumes nothing.
+-- `questions::first_above` meets its contract. The loop's invariant: the first bad value is none of those passed. Assumes nothing.
 use mathlib.Core.Path.{_≡_, _∙_}
 use Prim.Native.Nat.{_≤_, _+_, _-_}
 use lib.ListN.{length, drop}

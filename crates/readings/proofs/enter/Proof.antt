@@ -1,4 +1,4 @@
--- `readings::reading::enter` meets its contract: the outcome's two cases. Assumes nothing.
+-- `readings::enter` meets its contract: the outcome's two cases. Assumes nothing.
 use mathlib.Core.Path.{sym, ap, _∙_, subst}
 use Rattle.column.specs.Shape.{short}
 use Rattle.column.proofs.Levels.{reimaged-lt}

@@ -1,4 +1,4 @@
--- `readings::reading::masks_of` meets its contract: the masks of the two supercodes, or those of the code and none. Assumes nothing.
+-- `readings::masks_of` meets its contract: the masks of the two supercodes, or those of the code and none. Assumes nothing.
 use mathlib.Core.Bool.{Bool}
 use mathlib.Core.Path.{subst⁻¹}
 use Rattle.search.specs.Outcomes.{MasksFor}

@@ -1,4 +1,4 @@
--- `readings::reading::read_row` meets its contract: the first j columns are read, and the search's arrays keep their room. Assumes nothing.
+-- `readings::read_row` meets its contract: the first j columns are read, and the search's arrays keep their room. Assumes nothing.
 use mathlib.Core.Path.{_≡_, sym, ap, _∙_}
 use Prim.Native.Nat.{_-_, _<_, _≤_}
 use mathlib.Core.List.{[]}

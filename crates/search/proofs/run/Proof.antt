@@ -1,3 +1,4 @@
+-- `search::run` meets its contract. The loop's invariant: the search stands, and every run goes on from there as it does from the start. Assumes nothing.
 use Prim.Native.Nat.{_-_}
 use mathlib.Core.Logic.{inl, inr}
 use mathlib.Core.List.{List}

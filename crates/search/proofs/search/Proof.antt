@@ -1,3 +1,4 @@
+-- `search::search` meets its contract: a run from the empty stack. Assumes nothing.
 use mathlib.Core.List.{[]}
 use Rattle.search.proofs.Continues.{standing-start, holds-none, found-is, spent-is}
 use Rattle.search.proofs.search.Statement.{statement}

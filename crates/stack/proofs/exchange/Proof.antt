@@ -1,3 +1,4 @@
+-- `stack::exchange` meets its contract: the path given comes out, or the root, in whose place it sinks. Assumes nothing.
 use Prim.Native.Nat.{_+_}
 use mathlib.Core.Bool.{true, false}
 use mathlib.Core.Path.{_≡_, sym, ap, _∙_, subst}

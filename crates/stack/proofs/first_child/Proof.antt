@@ -1,3 +1,4 @@
+-- `stack::first_child` meets its contract. By how many of the four places have a path. Assumes nothing.
 use Prim.Native.Nat.{_+_}
 use mathlib.Core.Path.{_≡_, refl}
 use mathlib.Core.Logic.{inl, inr}

@@ -1,3 +1,4 @@
+-- `stack::larger` meets its contract. Assumes nothing.
 use borrow.Author.Tests.{lt-ltb, le-ltb}
 use Rattle.stack.proofs.larger.Statement.{statement}
 use Rattle.stack.proofs.larger.Tie as tie

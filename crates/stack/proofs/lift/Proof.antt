@@ -1,3 +1,4 @@
+-- `stack::lift` meets its contract. Assumes nothing.
 use mathlib.Core.Path.{ap, subst, subst⁻¹}
 use lib.IntN.{ℤ, pos, natAbs, _+ℤ_}
 use lib.Signed.{nonNeg}

@@ -1,3 +1,4 @@
+-- `stack::place_of_larger` meets its contract. Assumes nothing.
 use borrow.Author.Tests.{lt-ltb, le-ltb}
 use Rattle.stack.proofs.place_of_larger.Statement.{statement}
 use Rattle.stack.proofs.place_of_larger.Tie as tie

@@ -1,3 +1,4 @@
+-- `stack::rank_at` meets its contract. Assumes nothing.
 use mathlib.Core.Path.{ap, _∙_}
 use lib.IntN.{ℤ}
 use lib.ListN.{getD}

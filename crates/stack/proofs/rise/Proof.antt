@@ -1,3 +1,4 @@
+-- `stack::rise` meets its contract. The loop's invariant: the path is on its way up (`Rising`). Assumes nothing.
 use mir.Syntax.{w16}
 use mir.Val.{toZ}
 use mir.Facts.{toZ-ofZ}

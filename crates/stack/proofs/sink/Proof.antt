@@ -1,3 +1,4 @@
+-- `stack::sink` meets its contract. The loop's invariant: the path is on its way down (`Sinking`). Assumes nothing.
 use Prim.Native.Nat.{_+_, _≤_, _-_}
 use mathlib.Core.Path.{_≡_, ap, _∙_, subst⁻¹}
 use mathlib.Core.Logic.{inl, inr, ⊎-elim}

@@ -1,3 +1,4 @@
+-- `stack::stands_before` meets its contract. Assumes nothing.
 use Rattle.trellis.specs.Keys.{keyBefore}
 use borrow.Author.Tests.{lt-ltb, le-ltb}
 use Rattle.stack.proofs.Sums.{lt-flag}

@@ -1,3 +1,4 @@
+-- `stack::take_first` meets its contract: the root comes out, and the path at the last place sinks. Assumes nothing.
 use Prim.Native.Nat.{_+_, _-_}
 use mathlib.Core.Path.{sym, ap, _∙_}
 use lib.ListN.{getD}

@@ -1,4 +1,4 @@
--- `store::columns::encode_column` meets its contract: each return rewrites with the tests that led there; what is read lies before the first bad symbol. Assumes nothing.
+-- `store_columns::encode_column` meets its contract: each return rewrites with the tests that led there; what is read lies before the first bad symbol. Assumes nothing.
 use mathlib.Core.Path.{_≡_, subst}
 use Prim.Native.Nat.{ℕ, _≤_, _<_}
 use borrow.Author.Tests.{le-leb, lt-leb, eq-eqb, ne-eqb}

@@ -1,4 +1,4 @@
--- `store::columns::level_word` meets its contract: each return rewrites with the tests that led there. Assumes nothing.
+-- `store_columns::level_word` meets its contract: each return rewrites with the tests that led there. Assumes nothing.
 use borrow.Author.Tests.{le-ltb, lt-ltb}
 use borrow.Author.Needs.{needs}
 use Rattle.store_columns.proofs.level_word.Statement.{statement}

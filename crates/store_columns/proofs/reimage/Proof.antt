@@ -1,4 +1,4 @@
--- `store::columns::reimage` meets its contract: each return rewrites with the tests that led there. Assumes nothing.
+-- `store_columns::reimage` meets its contract: each return rewrites with the tests that led there. Assumes nothing.
 use mathlib.Core.Path.{sym, _∙_}
 use borrow.Author.Tests.{le-ltb, lt-ltb, not-true, not-false}
 use borrow.Author.Needs.{needs}

@@ -1,4 +1,4 @@
--- `store::dumps::ask_block` meets its contract: each return rewrites with what the two tests of the block gave. Assumes nothing.
+-- `store_dumps::ask_block` meets its contract: each return rewrites with what the two tests of the block gave. Assumes nothing.
 use mathlib.Core.Path.{_∙_, ap}
 use mathlib.Core.List.{List}
 use Prim.Native.Nat.{ℕ}

@@ -1,4 +1,4 @@
--- `store::dumps::read_dump` meets its contract: each return rewrites with the tests that led there, a block's by the number that asking it gave. Assumes nothing.
+-- `store_dumps::read_dump` meets its contract: each return rewrites with the tests that led there, a block's by the number that asking it gave. Assumes nothing.
 use mathlib.Core.Path.{_≡_, _∙_, ap}
 use mathlib.Core.List.{List}
 use Prim.Native.Nat.{ℕ, _≤_, _<_}

@@ -1,4 +1,4 @@
--- `store::dumps::write_dump` meets its contract: each return rewrites with the tests that led there. Assumes nothing.
+-- `store_dumps::write_dump` meets its contract: each return rewrites with the tests that led there. Assumes nothing.
 use mathlib.Core.Path.{_≡_}
 use Prim.Native.Nat.{_≤_, _<_}
 use borrow.Author.Needs.{needs}

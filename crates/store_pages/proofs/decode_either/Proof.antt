@@ -1,4 +1,4 @@
--- `store::pages::decode_either` meets its contract: each return rewrites with the tests that led there. Assumes nothing.
+-- `store_pages::decode_either` meets its contract: each return rewrites with the tests that led there. Assumes nothing.
 use mathlib.Core.Path.{sym, ap, _∙_, subst}
 use Prim.Native.Nat.{ℕ, _≤_, _<_}
 use borrow.Author.Tests.{eq-eqb, ne-eqb, le-leb, lt-leb}

@@ -1,4 +1,4 @@
--- `store::pages::encode_page` meets its contract: each return rewrites with the tests that led there. Assumes nothing.
+-- `store_pages::encode_page` meets its contract: each return rewrites with the tests that led there. Assumes nothing.
 use borrow.Author.Tests.{eq-eqb, ne-eqb}
 use Rattle.questions.proofs.Filled.{refused, done}
 use borrow.Author.Needs.{needs}

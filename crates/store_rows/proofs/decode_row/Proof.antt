@@ -1,4 +1,4 @@
--- `store::rows::decode_row` meets its contract: each return rewrites with the tests that led there. Assumes nothing.
+-- `store_rows::decode_row` meets its contract: each return rewrites with the tests that led there. Assumes nothing.
 use mathlib.Core.Path.{_≡_, sym, ap, _∙_, subst}
 use Prim.Native.Nat.{ℕ, _≤_, _<_}
 use borrow.Author.Tests.{le-ltb, lt-ltb, le-leb, lt-leb, eq-eqb, ne-eqb}

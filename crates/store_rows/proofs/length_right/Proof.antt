@@ -1,4 +1,4 @@
--- `store::rows::length_right` meets its contract. Assumes nothing.
+-- `store_rows::length_right` meets its contract. Assumes nothing.
 use native.Mathlib.Omega.{arith}
 use borrow.Author.Tests.{le-leb, lt-leb}
 use Rattle.store_rows.specs.Rows.{lengthRight}

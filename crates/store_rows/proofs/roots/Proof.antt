@@ -1,4 +1,4 @@
--- `store::rows::roots` meets its contract, level by level. Assumes nothing.
+-- `store_rows::roots` meets its contract, level by level. Assumes nothing.
 use mathlib.Core.Path.{sym, ap}
 use Rattle.store_rows.specs.Rows.{rootsOf}
 use Rattle.store_rows.proofs.RowRanges.{roots-high}

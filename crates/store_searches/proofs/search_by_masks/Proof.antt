@@ -1,4 +1,4 @@
--- `store::searches::search_by_masks` meets its contract: the outcome's two cases. Assumes nothing.
+-- `store_searches::search_by_masks` meets its contract: the outcome's two cases. Assumes nothing.
 use mathlib.Core.Path.{refl, sym, _∙_}
 use Rattle.store_searches.proofs.Outcomes.{found-answer, spent-answer}
 use borrow.Author.Needs.{needs}

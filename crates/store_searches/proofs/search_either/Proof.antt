@@ -1,4 +1,4 @@
--- `store::searches::search_either` meets its contract: each return rewrites with the tests that led there; the masks are those of the search. Assumes nothing.
+-- `store_searches::search_either` meets its contract: each return rewrites with the tests that led there; the masks are those of the search. Assumes nothing.
 use mathlib.Core.Path.{subst}
 use Prim.Native.Nat.{ℕ, _≤_, _<_}
 use borrow.Author.Tests.{eq-eqb, ne-eqb, le-ltb, lt-ltb, le-leb, lt-leb}

@@ -1,4 +1,4 @@
--- `readings::look::column_of` meets its contract: the two tests are those of the definition, and the part begins 30 j places behind the page's beginning. Assumes nothing.
+-- `softpage::look::column_of` meets its contract: the two tests are those of the definition, and the part begins 30 j places behind the page's beginning. Assumes nothing.
 use mathlib.Core.Path.{_≡_, sym, ap, _∙_}
 use mathlib.Core.Logic.{⊎-elim}
 use Prim.Native.Nat.{ℕ, _+_, _-_, _*_}

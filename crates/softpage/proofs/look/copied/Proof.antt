@@ -1,4 +1,4 @@
--- `readings::look::copied` meets its contract: the first p values stand in the array. Assumes nothing.
+-- `softpage::look::copied` meets its contract: the first p values stand in the array. Assumes nothing.
 use mathlib.Core.Path.{refl}
 use Prim.Native.Nat.{_-_}
 use Rattle.concatenated.proofs.Filling.{Front, front-none, front-more, front-all}

@@ -1,4 +1,4 @@
--- `readings::look::load` meets its contract: the first j columns are those of the page. Assumes nothing.
+-- `softpage::look::load` meets its contract: the first j columns are those of the page. Assumes nothing.
 use mathlib.Core.Path.{sym, ap, _∙_}
 use Prim.Native.Nat.{_-_}
 use Rattle.concatenated.proofs.Filling.{Front, front-none, front-more, front-all}

@@ -1,4 +1,4 @@
--- `readings::rows::altered` meets its contract: each return rewrites with the tests that led there. Assumes nothing.
+-- `softpage::rows::altered` meets its contract: each return rewrites with the tests that led there. Assumes nothing.
 use borrow.Author.Tests.{eq-eqb, ne-eqb}
 use Rattle.softpage.proofs.rows.altered.Statement.{statement}
 use Rattle.softpage.proofs.rows.altered.Tie as tie

@@ -1,4 +1,4 @@
--- `readings::rows::changed_columns` meets its contract: the first j flags are those of the changed columns. Assumes nothing.
+-- `softpage::rows::changed_columns` meets its contract: the first j flags are those of the changed columns. Assumes nothing.
 use mathlib.Core.Path.{_≡_, refl, sym, ap, _∙_}
 use Prim.Native.Nat.{_-_, _<_}
 use Rattle.concatenated.proofs.Filling.{Front, front-none, front-more, front-all}

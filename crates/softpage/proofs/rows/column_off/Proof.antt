@@ -1,4 +1,4 @@
--- `readings::rows::column_off` meets its contract: the first p values have the word taken off. Assumes nothing.
+-- `softpage::rows::column_off` meets its contract: the first p values have the word taken off. Assumes nothing.
 use mathlib.Core.Path.{_≡_, refl, sym, ap, _∙_}
 use Prim.Native.Nat.{ℕ, suc, _-_, _<_, _≤_}
 use Rattle.concatenated.proofs.Filling.{Front, front-none, front-more, front-all}

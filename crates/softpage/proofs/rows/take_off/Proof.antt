@@ -1,4 +1,4 @@
--- `readings::rows::take_off` meets its contract: the first j columns have their words taken off, the others are as they were. Assumes nothing.
+-- `softpage::rows::take_off` meets its contract: the first j columns have their words taken off, the others are as they were. Assumes nothing.
 use mathlib.Core.Path.{_≡_, sym, ap₂, _∙_, subst⁻¹}
 use Prim.Native.Nat.{ℕ, _-_, _<_}
 use mathlib.Core.List.{List, []}

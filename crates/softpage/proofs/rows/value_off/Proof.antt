@@ -1,4 +1,4 @@
--- `readings::rows::value_off` meets its contract: the digit is 0 or 1, and 7 - q is q with its three bits exchanged. Assumes nothing.
+-- `softpage::rows::value_off` meets its contract: the digit is 0 or 1, and 7 - q is q with its three bits exchanged. Assumes nothing.
 use mathlib.Core.Path.{_≡_, ap, _∙_}
 use Prim.Native.Nat.{ℕ, zero, suc, _+_, _-_, _*_, _/_, _%_, _^_, _≤_, _<_}
 use native.Mathlib.Nat

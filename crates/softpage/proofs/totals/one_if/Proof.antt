@@ -1,4 +1,4 @@
--- `readings::totals::one_if` meets its contract: each return rewrites with the test that led there. Assumes nothing.
+-- `softpage::totals::one_if` meets its contract: each return rewrites with the test that led there. Assumes nothing.
 use borrow.Author.Tests.{eq-eqb, ne-eqb}
 use Rattle.softpage.proofs.totals.one_if.Statement.{statement}
 use Rattle.softpage.proofs.totals.one_if.Tie as tie

@@ -1,4 +1,4 @@
--- `readings::totals::total_of` meets its contract: the flags set among the first j are counted. Assumes nothing.
+-- `softpage::totals::total_of` meets its contract: the flags set among the first j are counted. Assumes nothing.
 use mathlib.Core.Path.{_≡_, ap, _∙_}
 use Prim.Native.Nat.{ℕ, _-_, _<_, _≤_}
 use mathlib.Core.List.{List, map}

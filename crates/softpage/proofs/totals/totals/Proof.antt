@@ -1,4 +1,4 @@
--- `readings::totals::totals` meets its contract: the first i sets are counted. Assumes nothing.
+-- `softpage::totals::totals` meets its contract: the first i sets are counted. Assumes nothing.
 use mathlib.Core.Path.{refl, sym, _∙_}
 use Prim.Native.Nat.{ℕ, _-_, _<_}
 use Rattle.concatenated.proofs.Filling.{Front, front-none, front-more, front-all}
