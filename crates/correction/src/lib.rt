@@ -10,20 +10,20 @@ ghost use lib.Dec.{eqb};
 ghost use lib.ListN.{length};
 ghost use Rattle.reedsolomon.specs.Words.{count, errors, wrong as wrongIn};
 ghost use Rattle.reedsolomon.specs.Row.{symbol, Symbols, marked};
-ghost use Rattle.reedsolomon.specs.Steps.{Padded, HasSyndromes, Suspected, IsCorrection};
+ghost use Rattle.reedsolomon.specs.Steps.{Padded, HasSyndromes, HasErrorLocations, IsCorrection};
 
-// The marks of the suspects of a row with the syndromes s, of which n columns are erased.
-fn suspected(marks: &[u8], s: [u8; 33], t: usize, n: usize) -> [u8; 64]
+// The marks of the error locations of a row with the syndromes s, of which n columns are erased.
+fn error_locations(marks: &[u8], s: [u8; 33], t: usize, n: usize) -> [u8; 64]
     requires { ⌜ (63 ≤ length (now marks)) × (t ≤ 30) × (n ≤ t) × (n ≡ count (marked (now marks)) 63) × Symbols 6 s ⌝ }
-    ensures { λ r. ⌜ Suspected 6 67 63 t (now (marks .entry)) s r ⌝ }
+    ensures { λ r. ⌜ HasErrorLocations 6 67 63 t (now (marks .entry)) s r ⌝ }
 {
     let mut m = s;
-    erasure::strip(&mut m, marks, n);
-    let f = locate::locator(&m, (t - n) / 2);
+    erasure::modify_syndromes(&mut m, marks, n);
+    let f = locate::locator_polynomial(&m, (t - n) / 2);
     let d = f.degree;
     let row = f.row;
     let values = root::all_values(&row, d);
-    root::suspects(marks, &values)
+    root::locations(marks, &values)
 }
 
 // A row and its syndromes.
@@ -32,17 +32,17 @@ pub struct Row {
     pub syndromes: [u8; 33],
 }
 
-// The row with its suspects corrected.
+// The row with its error locations corrected.
 pub fn corrected(w: [u8; 64], marks: &[u8], s: [u8; 33], t: usize, n: usize) -> Row
     requires { ⌜ (63 ≤ length (now marks)) × (t ≤ 30) × (n ≤ t) × (n ≡ count (marked (now marks)) 63) × Padded 6 63 w × HasSyndromes 6 67 63 t w s ⌝ }
     ensures { λ r. ⌜ IsCorrection 6 67 63 t (now (marks .entry)) w (r .symbols) × HasSyndromes 6 67 63 t (r .symbols) (r .syndromes) ⌝ }
 {
-    let flags = suspected(marks, s, t, n);
-    let f = root::places_of(&flags);
+    let flags = error_locations(marks, s, t, n);
+    let f = root::locators_of(&flags);
     let k = f.k;
     let xs = f.xs;
     let g = magnitude::polynomial(&xs, k);
-    let ys = magnitude::all_amounts(&g, &s, k, &xs);
+    let ys = magnitude::all_magnitudes(&g, &s, k, &xs);
     let symbols = magnitude::added(w, &flags, &ys);
     let syndromes = syndrome::summed(s, &ys, &xs, k, t);
     Row { symbols, syndromes }

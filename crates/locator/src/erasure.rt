@@ -1,4 +1,4 @@
-// The erased columns: how many, and what is left of the syndromes once their places are sifted out.
+// The erased columns: how many, and the modified syndromes, from which their locators are taken out.
 use syndromes::syndrome;
 ghost use mathlib.Core.Path.{_≡_};
 ghost use Prim.Native.Nat.{ℕ, suc, _≤_, _<_};
@@ -8,7 +8,7 @@ ghost use Rattle.poly.specs.Polynomial.{add};
 ghost use Rattle.field.specs.Element.{mul};
 ghost use Rattle.reedsolomon.specs.Words.{indicator, count};
 ghost use Rattle.reedsolomon.specs.Row.{symbol, Symbols, marked};
-ghost use Rattle.reedsolomon.specs.Steps.{Written, Stripped};
+ghost use Rattle.reedsolomon.specs.Steps.{Written, HasModifiedSyndromes};
 
 // 1 for a mark, else 0
 fn one(mark: u8) -> u8
@@ -29,8 +29,8 @@ pub fn number(marks: &[u8]) -> usize
     n as usize
 }
 
-// The place y is sifted out of the first 33 entries of s.
-pub fn sift(s: &mut [u8], y: u8)
+// The locator y is taken out of the first 33 entries of s.
+pub fn modify(s: &mut [u8], y: u8)
     requires { ⌜ 32 < length (now s) ⌝ }
     ensures { λ r. ⌜ Written 32 (λ (i : ℕ). add (symbol (now (s .entry)) (suc i)) (mul 6 67 y (symbol (now (s .entry)) i))) (now (s .entry)) (now (s .exit)) ⌝ }
 {
@@ -39,18 +39,18 @@ pub fn sift(s: &mut [u8], y: u8)
     }
 }
 
-// The places of the n marked columns are sifted out of s.
-pub fn strip(s: &mut [u8], marks: &[u8], n: usize)
+// The locators of the n marked columns are taken out of s.
+pub fn modify_syndromes(s: &mut [u8], marks: &[u8], n: usize)
     requires { ⌜ (32 < length (now s)) × (63 ≤ length (now marks)) × Symbols 6 (now s) × (n ≡ count (marked (now marks)) 63) ⌝ }
-    ensures { λ r. ⌜ Stripped 6 67 63 33 (now (marks .entry)) (now (s .entry)) (now (s .exit)) ⌝ }
+    ensures { λ r. ⌜ HasModifiedSyndromes 6 67 63 33 (now (marks .entry)) (now (s .entry)) (now (s .exit)) ⌝ }
 {
     if n == 0 {
         return;
     }
-    let all = syndrome::places();
+    let all = syndrome::locators();
     for j in 0..63 {
         if marks[j] == 1 {
-            sift(s, all[j]);
+            modify(s, all[j]);
         }
     }
 }

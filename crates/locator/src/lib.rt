@@ -1,4 +1,4 @@
-// The locator of a row's errors: erased places are taken out of the syndromes, the shortest recursion is found, and its roots are listed.
+// The error locations of a row: modified syndromes, the locator polynomial, its roots.
 pub mod erasure;
 pub mod locate;
 pub mod root;

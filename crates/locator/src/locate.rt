@@ -1,4 +1,4 @@
-// The locator by elimination: a row of 32 entries is 16 combinations and then 16 coefficients, and each equation has a slot for an earlier row.
+// The locator polynomial by elimination: a row of 32 entries is 16 combinations and then 16 coefficients, and each equation has a slot for an earlier row.
 use syndromes::lists;
 ghost use mathlib.Core.Path.{_≡_};
 ghost use Prim.Native.Nat.{ℕ, _+_, _*_, _≤_};
@@ -60,14 +60,14 @@ fn attempt(m: &[u8], n: usize, slots: &[u8], qs: &[u8], b: usize) -> Tried
     Tried { row, stop: n }
 }
 
-// A locator: its row, and the degree.
+// A locator polynomial: its row, and the degree.
 pub struct Located {
     pub row: [u8; 32],
     pub degree: usize,
 }
 
 // The first row that meets all n equations.
-pub fn locator(m: &[u8], n: usize) -> Located
+pub fn locator_polynomial(m: &[u8], n: usize) -> Located
     requires { ⌜ (n ≤ 15) × (31 ≤ length (now m)) × Symbols 6 (now m) ⌝ }
     ensures { λ r. ⌜ (r .degree ≤ n) × RowAt 6 67 n (now (m .entry)) (r .row) (r .degree) n ⌝ }
 {

@@ -1,4 +1,4 @@
-// The suspects: the erased columns and the roots of the locator.
+// The error locations: the erased columns and the roots of the locator polynomial.
 use syndromes::lists;
 use syndromes::syndrome;
 ghost use mathlib.Core.Path.{_≡_};
@@ -8,9 +8,9 @@ ghost use lib.ListN.{length};
 ghost use Rattle.poly.specs.Polynomial.{add};
 ghost use Rattle.field.specs.Element.{mul};
 ghost use Rattle.reedsolomon.specs.Row.{symbol};
-ghost use Rattle.reedsolomon.specs.Steps.{Entries, place, rowValue, Flagged, PlacesOf};
+ghost use Rattle.reedsolomon.specs.Steps.{Entries, locatorAt, rowValue, Flagged, LocatorsOf};
 
-// One coefficient c more, at sixteen places.
+// One coefficient c more, at sixteen locators.
 pub fn raised(v: &mut [u8], xs: &[u8], c: u8)
     requires { ⌜ (16 ≤ length (now v)) × (16 ≤ length (now xs)) ⌝ }
     ensures { λ r. ⌜ Entries 16 (λ (i : ℕ). add (mul 6 67 (symbol (now (xs .entry)) i) (symbol (now (v .entry)) i)) c) (now (v .exit)) ⌝ }
@@ -20,7 +20,7 @@ pub fn raised(v: &mut [u8], xs: &[u8], c: u8)
     }
 }
 
-// The values of the row's polynomial of degree d at sixteen places.
+// The values of the row's polynomial of degree d at sixteen locators.
 fn values(row: &[u8], d: usize, xs: [u8; 16]) -> [u8; 16]
     requires { ⌜ (d ≤ 15) × (32 ≤ length (now row)) ⌝ }
     ensures { λ r. ⌜ Entries 16 (λ (i : ℕ). rowValue 6 67 (now (row .entry)) d (symbol xs i)) r ⌝ }
@@ -34,12 +34,12 @@ fn values(row: &[u8], d: usize, xs: [u8; 16]) -> [u8; 16]
     v
 }
 
-// The values of the row's polynomial of degree d at the places of all columns.
+// The values of the row's polynomial of degree d at the locators of all columns.
 pub fn all_values(row: &[u8], d: usize) -> [u8; 64]
     requires { ⌜ (d ≤ 15) × (32 ≤ length (now row)) ⌝ }
-    ensures { λ r. ⌜ Entries 63 (λ (j : ℕ). rowValue 6 67 (now (row .entry)) d (place 6 67 63 j)) r ⌝ }
+    ensures { λ r. ⌜ Entries 63 (λ (j : ℕ). rowValue 6 67 (now (row .entry)) d (locatorAt 6 67 63 j)) r ⌝ }
 {
-    let all = syndrome::places();
+    let all = syndrome::locators();
     let mut r = [0u8; 64];
     let mut b = 0;
     while b < 4 {
@@ -51,7 +51,7 @@ pub fn all_values(row: &[u8], d: usize) -> [u8; 64]
     r
 }
 
-// 1 for a suspect, else 0
+// 1 for an error location, else 0
 fn flag(mark: u8, value: u8) -> u8
     ensures { λ r. ⌜ ((mark ≡ 1) ⊎ (value ≡ 0) → r ≡ 1) × (r ≡ 1 → (mark ≡ 1) ⊎ (value ≡ 0)) ⌝ }
 {
@@ -61,8 +61,8 @@ fn flag(mark: u8, value: u8) -> u8
     if value == 0 { 1 } else { 0 }
 }
 
-// The marks of the suspects: the marked columns, and those where the value is 0.
-pub fn suspects(marks: &[u8], values: &[u8]) -> [u8; 64]
+// The marks of the error locations: the marked columns, and those where the value is 0.
+pub fn locations(marks: &[u8], values: &[u8]) -> [u8; 64]
     requires { ⌜ (63 ≤ length (now marks)) × (63 ≤ length (now values)) ⌝ }
     ensures { λ r. ⌜ Flagged 6 67 63 (now (marks .entry)) (now (values .entry)) r ⌝ }
 {
@@ -73,18 +73,18 @@ pub fn suspects(marks: &[u8], values: &[u8]) -> [u8; 64]
     flags
 }
 
-// Places, how many there are, and 0 behind them.
+// Locators, how many there are, and 0 behind them.
 pub struct Listed {
     pub xs: [u8; 64],
     pub k: usize,
 }
 
-// The places of the marked columns in their order.
-pub fn places_of(flags: &[u8]) -> Listed
+// The locators of the marked columns in their order.
+pub fn locators_of(flags: &[u8]) -> Listed
     requires { ⌜ 63 ≤ length (now flags) ⌝ }
-    ensures { λ r. ⌜ PlacesOf 6 67 63 (now (flags .entry)) (r .xs) (r .k) ⌝ }
+    ensures { λ r. ⌜ LocatorsOf 6 67 63 (now (flags .entry)) (r .xs) (r .k) ⌝ }
 {
-    let all = syndrome::places();
+    let all = syndrome::locators();
     let mut xs = [0u8; 64];
     let mut k: usize = 0;
     for j in 0..63 {

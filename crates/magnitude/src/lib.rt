@@ -1,4 +1,4 @@
-// The suspects' polynomial, and what is to be added at each of them: sixteen at a time by synthetic division.
+// The error locations' polynomial, and what is to be added at each of them: sixteen at a time by synthetic division.
 use locator::erasure;
 use locator::root;
 use syndromes::lists;
@@ -7,12 +7,12 @@ ghost use Prim.Native.Nat.{ℕ, _+_, _-_, _≤_};
 ghost use lib.ListN.{length};
 ghost use Rattle.poly.specs.Polynomial.{add};
 ghost use Rattle.field.specs.Element.{mul, inverse};
-ghost use Rattle.reedsolomon.specs.Quotient.{amount};
+ghost use Rattle.reedsolomon.specs.Quotient.{magnitude};
 ghost use Rattle.reedsolomon.specs.Product.{ProductPolynomial};
 ghost use Rattle.reedsolomon.specs.Row.{symbol, Symbols};
 ghost use Rattle.reedsolomon.specs.Steps.{Element, Entries, Added};
 
-// The polynomial with the first k places as its roots, its last coefficient in entry 31.
+// The polynomial with the first k locators as its roots, its last coefficient in entry 31.
 pub fn polynomial(xs: &[u8], k: usize) -> [u8; 33]
     requires { ⌜ (k ≤ 31) × (k ≤ length (now xs)) ⌝ }
     ensures { λ r. ⌜ ProductPolynomial (Element 6 67) add (mul 6 67) 0 1 (symbol (now (xs .entry))) (λ (i : ℕ). true) k 31 (symbol r) ⌝ }
@@ -20,7 +20,7 @@ pub fn polynomial(xs: &[u8], k: usize) -> [u8; 33]
     let mut g = [0u8; 33];
     g[31] = 1;
     for i in 0..k {
-        erasure::sift(&mut g, xs[i]);
+        erasure::modify(&mut g, xs[i]);
     }
     g
 }
@@ -70,10 +70,10 @@ fn inverses(a: [u8; 16]) -> [u8; 16]
     products(a31, a31)
 }
 
-// What is to be added at sixteen places, where g is the polynomial of k suspects and s are the syndromes.
-fn amounts(g: &[u8], s: &[u8], k: usize, xs: [u8; 16]) -> [u8; 16]
+// What is to be added at sixteen locators, where g is the polynomial of k error locations and s are the syndromes.
+fn magnitudes(g: &[u8], s: &[u8], k: usize, xs: [u8; 16]) -> [u8; 16]
     requires { ⌜ (k ≤ 31) × (33 ≤ length (now g)) × (k ≤ length (now s)) ⌝ }
-    ensures { λ r. ⌜ Entries 16 (λ (i : ℕ). amount add (mul 6 67) 0 (inverse 6 67) k (symbol (now (s .entry))) (λ (j : ℕ). symbol (now (g .entry)) (31 - k + j)) (symbol xs i)) r ⌝ }
+    ensures { λ r. ⌜ Entries 16 (λ (i : ℕ). magnitude add (mul 6 67) 0 (inverse 6 67) k (symbol (now (s .entry))) (λ (j : ℕ). symbol (now (g .entry)) (31 - k + j)) (symbol xs i)) r ⌝ }
 {
     let mut q = [0u8; 16];
     let mut d = [0u8; 16];
@@ -90,23 +90,23 @@ fn amounts(g: &[u8], s: &[u8], k: usize, xs: [u8; 16]) -> [u8; 16]
     products(a, f)
 }
 
-// What is to be added at each of the k suspects.
-pub fn all_amounts(g: &[u8], s: &[u8], k: usize, xs: &[u8]) -> [u8; 64]
+// What is to be added at each of the k error locations.
+pub fn all_magnitudes(g: &[u8], s: &[u8], k: usize, xs: &[u8]) -> [u8; 64]
     requires { ⌜ (k ≤ 31) × (33 ≤ length (now g)) × (k ≤ length (now s)) × (64 ≤ length (now xs)) ⌝ }
-    ensures { λ r. ⌜ Entries k (λ (i : ℕ). amount add (mul 6 67) 0 (inverse 6 67) k (symbol (now (s .entry))) (λ (j : ℕ). symbol (now (g .entry)) (31 - k + j)) (symbol (now (xs .entry)) i)) r × Symbols 6 r ⌝ }
+    ensures { λ r. ⌜ Entries k (λ (i : ℕ). magnitude add (mul 6 67) 0 (inverse 6 67) k (symbol (now (s .entry))) (λ (j : ℕ). symbol (now (g .entry)) (31 - k + j)) (symbol (now (xs .entry)) i)) r × Symbols 6 r ⌝ }
 {
     let mut ys = [0u8; 64];
     let mut b = 0;
     while b * 16 < k {
         let x = lists::block(xs, b);
-        let y = amounts(g, s, k, x);
+        let y = magnitudes(g, s, k, x);
         lists::put(&y, 16, b * 16, &mut ys);
         b += 1;
     }
     ys
 }
 
-// The row with the amounts added at the suspects.
+// The row with the magnitudes added at the error locations.
 pub fn added(w: [u8; 64], flags: &[u8], ys: &[u8]) -> [u8; 64]
     requires { ⌜ (63 ≤ length (now flags)) × (63 ≤ length (now ys)) ⌝ }
     ensures { λ r. ⌜ Added 6 67 63 (now (flags .entry)) (now (ys .entry)) w r ⌝ }

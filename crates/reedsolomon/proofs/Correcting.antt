@@ -13,10 +13,10 @@ use Rattle.field.specs.Element.{mul, inverse, α, Primitive}
 use Rattle.field.specs.Laws.{Field}
 use Rattle.reedsolomon.specs.Sums.{sum, power, value, reversed}
 use Rattle.reedsolomon.specs.Words.{syndrome, indicator, count}
-use Rattle.reedsolomon.specs.Quotient.{amount}
+use Rattle.reedsolomon.specs.Quotient.{magnitude}
 use Rattle.reedsolomon.specs.Product.{ProductPolynomial}
 use Rattle.reedsolomon.specs.Row.{symbol, Symbols, marked}
-use Rattle.reedsolomon.specs.Steps.{Entries, Padded, placeSum, Summed, HasSyndromes, Stripped, RowAt, coefficient, rowValue, place, Flagged, PlacesOf, Added, Suspected, IsCorrection}
+use Rattle.reedsolomon.specs.Steps.{Entries, Padded, locatorSum, Summed, HasSyndromes, HasModifiedSyndromes, RowAt, coefficient, rowValue, locatorAt, Flagged, LocatorsOf, Added, HasErrorLocations, IsCorrection}
 use Rattle.reedsolomon.proofs.FieldFacts.{mul-zero, zero-mul}
 use Rattle.reedsolomon.proofs.Sums.{sum-without-end}
 use Rattle.reedsolomon.proofs.Syndromes.{syndrome-is-sum, syndrome-of-sum, syndrome-of-equals}
@@ -26,16 +26,16 @@ use Rattle.reedsolomon.proofs.Polynomials.{value-in}
 use Rattle.reedsolomon.proofs.Powers.{position-in, positions-are-distinct}
 use Rattle.reedsolomon.proofs.Product.{product-has-marked-roots}
 use Rattle.reedsolomon.proofs.Roots.{reversed-is-not-zero}
-use Rattle.reedsolomon.proofs.Locator.{suspects-are-few}
+use Rattle.reedsolomon.proofs.Locator.{locations-are-few}
 use Rattle.reedsolomon.proofs.Elimination.{finished-row-is-not-zero, finished-row-combines-to-zero}
 use Rattle.reedsolomon.proofs.Answers.{K, order}
 
 module _ (m g : ℕ) (F : Field (λ a. a < 2 ^ m) add (mul m g) 0 1 (inverse m g)) where
-  -- the marks of the suspects, from the row that finished
-  pub suspects-by-locator : (N T t : ℕ) (marks s M row values flags : List ℕ) (n d : ℕ) → n ≡ (T - count (marked marks) N) / 2 → T ≤ t → Stripped m g N t marks s M → d ≤ n
-      → RowAt m g n M row d n → Entries N (λ j. rowValue m g row d (place m g N j)) values → Flagged m g N marks values flags → Suspected m g N T marks s flags
+  -- the marks of the error locations, from the row that finished
+  pub locations-by-locator : (N T t : ℕ) (marks s M row values flags : List ℕ) (n d : ℕ) → n ≡ (T - count (marked marks) N) / 2 → T ≤ t → HasModifiedSyndromes m g N t marks s M → d ≤ n
+      → RowAt m g n M row d n → Entries N (λ j. rowValue m g row d (locatorAt m g N j)) values → Flagged m g N marks values flags → HasErrorLocations m g N T marks s flags
   unfolding rowValue
-  suspects-by-locator N T t marks s M row values flags n d en hT st hd r hv f =
+  locations-by-locator N T t marks s M row values flags n d en hT st hd r hv f =
       record {
         rest = symbol M;
         degree = d;
@@ -45,23 +45,23 @@ module _ (m g : ℕ) (F : Field (λ a. a < 2 ^ m) add (mul m g) 0 1 (inverse m g
         locator-not-zero = finished-row-is-not-zero F 16 n (symbol M) (coefficient m g row) (symbol row) d n r;
         locator-short = subst (λ (x : ℕ). d ≤ x) en hd;
         locator-meets = λ i l. finished-row-combines-to-zero F 16 n (symbol M) (coefficient m g row) (symbol row) d r i (subst (λ (x : ℕ). i < x) (sym en) l);
-        suspects = λ j l e. ⊎-elim (λ q. inl q) (λ q. inr (sym (hv j l) ∙ q)) (f .only j l e);
-        erased-is-suspect = f .erased;
-        root-is-suspect = λ j l e. f .zero j l (hv j l ∙ e);
+        locations = λ j l e. ⊎-elim (λ q. inl q) (λ q. inr (sym (hv j l) ∙ q)) (f .only j l e);
+        erased-is-location = f .erased;
+        root-is-location = λ j l e. f .zero j l (hv j l ∙ e);
       }
 
-  -- the amounts added at the suspects make the corrected word
-  pub correction-by-amounts : (N T e : ℕ) (marks w s flags xs a ys v : List ℕ) (k : ℕ) → Padded m N w → HasSyndromes m g N T w s → Suspected m g N T marks s flags
-      → PlacesOf m g N flags xs k → k ≤ e → ProductPolynomial (λ a. a < 2 ^ m) add (mul m g) 0 1 (symbol xs) (λ i. true) k e (symbol a)
-      → Entries k (λ i. amount add (mul m g) 0 (inverse m g) k (symbol s) (λ j. symbol a (e - k + j)) (symbol xs i)) ys → Added m g N flags ys w v
+  -- the magnitudes added at the error locations make the corrected word
+  pub correction-by-magnitudes : (N T e : ℕ) (marks w s flags xs a ys v : List ℕ) (k : ℕ) → Padded m N w → HasSyndromes m g N T w s → HasErrorLocations m g N T marks s flags
+      → LocatorsOf m g N flags xs k → k ≤ e → ProductPolynomial (λ a. a < 2 ^ m) add (mul m g) 0 1 (symbol xs) (λ i. true) k e (symbol a)
+      → Entries k (λ i. magnitude add (mul m g) 0 (inverse m g) k (symbol s) (λ j. symbol a (e - k + j)) (symbol xs i)) ys → Added m g N flags ys w v
       → IsCorrection m g N T marks w v
-  correction-by-amounts N T e marks w s flags xs a ys v k hw hs su pl hk pp hy ad =
+  correction-by-magnitudes N T e marks w s flags xs a ys v k hw hs su pl hk pp hy ad =
       record {
         syndromes = symbol s;
         rest = su .rest;
         size = suc (su .degree);
         locator = su .locator;
-        suspects = marked flags;
+        locations = marked flags;
         number = k;
         polynomial = λ j. symbol a (e - k + j);
         correction = record {
@@ -71,14 +71,14 @@ module _ (m g : ℕ) (F : Field (λ a. a < 2 ^ m) add (mul m g) 0 1 (inverse m g
           locator-not-zero = su .locator-not-zero;
           locator-short = let h = su .locator-short in omega arith;
           locator-meets = su .locator-meets;
-          suspects = su .suspects;
-          erased-is-suspect = su .erased-is-suspect;
-          root-is-suspect = su .root-is-suspect;
+          locations = su .locations;
+          erased-is-location = su .erased-is-location;
+          root-is-location = su .root-is-location;
           number = sym (pl .number);
           polynomial-in = λ j l. pp .inside (e - k + j);
           polynomial-monic = pp .leading (e - k + 0) (omega (arith, count-of-all k));
           polynomial-roots = roots;
-          corrected = λ j l u. ad .suspect j l u ∙ ap (add (symbol w j)) (amount-at j l u);
+          corrected = λ j l u. ad .location j l u ∙ ap (add (symbol w j)) (magnitude-at j l u);
           kept = ad .other;
         };
         padded = record {
@@ -90,27 +90,27 @@ module _ (m g : ℕ) (F : Field (λ a. a < 2 ^ m) add (mul m g) 0 1 (inverse m g
       below : (j : ℕ) → j < N → marked flags j ≡ true → count (marked flags) j < k
       below j l u = subst (λ (x : ℕ). count (marked flags) j < x) (sym (pl .number)) (fewer-marks-before (marked flags) N j l u)
 
-      roots : (j : ℕ) → j < N → marked flags j ≡ true → value add (mul m g) 0 (suc k) (λ i. symbol a (e - k + i)) (place m g N j) ≡ 0
+      roots : (j : ℕ) → j < N → marked flags j ≡ true → value add (mul m g) 0 (suc k) (λ i. symbol a (e - k + i)) (locatorAt m g N j) ≡ 0
       roots j l u =
-          subst (λ (x : ℕ). value add (mul m g) 0 (suc k) (λ i. symbol a (e - k + i)) x ≡ 0) (pl .places j l u)
+          subst (λ (x : ℕ). value add (mul m g) 0 (suc k) (λ i. symbol a (e - k + i)) x ≡ 0) (pl .locators j l u)
           (subst (λ (x : ℕ). value add (mul m g) 0 (suc x) (λ i. symbol a (e - k + i)) (symbol xs (count (marked flags) j)) ≡ 0) (count-of-all k)
           (product-has-marked-roots F (symbol xs) (λ i. true) e k (symbol a) pp (e - k) (omega (arith, count-of-all k)) (count (marked flags) j) (below j l u) refl))
 
-      amount-at : (j : ℕ) → j < N → marked flags j ≡ true
-          → symbol ys (count (marked flags) j) ≡ amount add (mul m g) 0 (inverse m g) k (symbol s) (λ i. symbol a (e - k + i)) (place m g N j)
-      amount-at j l u =
+      magnitude-at : (j : ℕ) → j < N → marked flags j ≡ true
+          → symbol ys (count (marked flags) j) ≡ magnitude add (mul m g) 0 (inverse m g) k (symbol s) (λ i. symbol a (e - k + i)) (locatorAt m g N j)
+      magnitude-at j l u =
           hy (count (marked flags) j) (below j l u)
-          ∙ ap (amount add (mul m g) 0 (inverse m g) k (symbol s) (λ i. symbol a (e - k + i))) (pl .places j l u)
+          ∙ ap (magnitude add (mul m g) 0 (inverse m g) k (symbol s) (λ i. symbol a (e - k + i))) (pl .locators j l u)
 
       in-row : (j : ℕ) → j < N → (b : Bool) → marked flags j ≡ b → symbol v j < 2 ^ m
       in-row j l true u =
-          subst (λ (x : ℕ). x < 2 ^ m) (sym (ad .suspect j l u ∙ ap (add (symbol w j)) (amount-at j l u)))
-          (F .in-sum (symbol w j) _ (hw .inside j) (unfold amount in F .in-mul _ _))
+          subst (λ (x : ℕ). x < 2 ^ m) (sym (ad .location j l u ∙ ap (add (symbol w j)) (magnitude-at j l u)))
+          (F .in-sum (symbol w j) _ (hw .inside j) (unfold magnitude in F .in-mul _ _))
       in-row j l false u = subst (λ (x : ℕ). x < 2 ^ m) (sym (ad .other j l u)) (hw .inside j)
 
-  pub amount-inside : (k : ℕ) (S p : ℕ → ℕ) (x : ℕ) → amount add (mul m g) 0 (inverse m g) k S p x < 2 ^ m
-  unfolding amount
-  amount-inside k S p x = F .in-mul _ _
+  pub magnitude-inside : (k : ℕ) (S p : ℕ → ℕ) (x : ℕ) → magnitude add (mul m g) 0 (inverse m g) k S p x < 2 ^ m
+  unfolding magnitude
+  magnitude-inside k S p x = F .in-mul _ _
 
   -- a sum over the marked columns is one over all, where the others have 0
   sum-over-marks : (U : ℕ → Bool) (h f : ℕ → ℕ) (n : ℕ) → ((j : ℕ) → j < n → U j ≡ true → f j ≡ h (count U j)) → ((j : ℕ) → j < n → U j ≡ false → f j ≡ 0)
@@ -127,9 +127,9 @@ module _ (m g : ℕ) (F : Field (λ a. a < 2 ^ m) add (mul m g) 0 1 (inverse m g
           ap (λ (x : ℕ). sum add 0 x h) (count-of-unmarked U n q) ∙ before ∙ sym (F .sum-zero (sum add 0 n f)) ∙ ap (add (sum add 0 n f)) (sym (z n (lt-suc-self n) q))
 
   -- the syndromes of the corrected word: those of the word, and the power sums of what was added
-  pub syndromes-of-corrected : (N T k : ℕ) (w v flags ys xs s c : List ℕ) → HasSyndromes m g N T w s → PlacesOf m g N flags xs k → Added m g N flags ys w v → Symbols m ys
+  pub syndromes-of-corrected : (N T k : ℕ) (w v flags ys xs s c : List ℕ) → HasSyndromes m g N T w s → LocatorsOf m g N flags xs k → Added m g N flags ys w v → Symbols m ys
       → Summed m g k T ys xs s c → HasSyndromes m g N T v c
-  unfolding placeSum
+  unfolding locatorSum
   syndromes-of-corrected N T k w v flags ys xs s c hs pl ad hy f =
       record {
         syndromes = λ i l.
@@ -155,7 +155,7 @@ module _ (m g : ℕ) (F : Field (λ a. a < 2 ^ m) add (mul m g) 0 1 (inverse m g
       changed j l = go (marked flags j) refl
         where
           go : (b : Bool) → marked flags j ≡ b → symbol v j ≡ add (symbol w j) (change j)
-          go true q = ad .suspect j l q ∙ ap (add (symbol w j)) (sym (change-at j q))
+          go true q = ad .location j l q ∙ ap (add (symbol w j)) (sym (change-at j q))
           go false q = ad .other j l q ∙ sym (F .sum-zero (symbol w j)) ∙ ap (add (symbol w j)) (sym (no-change-at j q))
 
       change-inside : (j : ℕ) → change j < 2 ^ m
@@ -181,20 +181,20 @@ module _ (m g : ℕ) (F : Field (λ a. a < 2 ^ m) add (mul m g) 0 1 (inverse m g
       added-sum i =
           ap (λ (x : ℕ). sum add 0 x (term i)) split ∙ sum-without-end F k (f .number - k) (term i) (λ l u v. behind i l u)
           ∙ ap (λ (x : ℕ). sum add 0 x (term i)) (pl .number)
-          ∙ sum-over-marks (marked flags) (term i) (λ j. mul m g (change j) (power (mul m g) 1 (place m g N j) (suc i))) N
-          (λ j l q. ap₂ (λ (x y : ℕ). mul m g x (power (mul m g) 1 y (suc i))) (change-at j q) (sym (pl .places j l q)))
-          (λ j l q. ap (λ (x : ℕ). mul m g x (power (mul m g) 1 (place m g N j) (suc i))) (no-change-at j q) ∙ zero-mul F (power (mul m g) 1 (place m g N j) (suc i)))
+          ∙ sum-over-marks (marked flags) (term i) (λ j. mul m g (change j) (power (mul m g) 1 (locatorAt m g N j) (suc i))) N
+          (λ j l q. ap₂ (λ (x y : ℕ). mul m g x (power (mul m g) 1 y (suc i))) (change-at j q) (sym (pl .locators j l q)))
+          (λ j l q. ap (λ (x : ℕ). mul m g x (power (mul m g) 1 (locatorAt m g N j) (suc i))) (no-change-at j q) ∙ zero-mul F (power (mul m g) 1 (locatorAt m g N j) (suc i)))
           ∙ sym (syndrome-is-sum F α N change i (λ j l. change-inside j))
 
--- there are at most T suspects
-pub suspects-bounded : (m g N T : ℕ) → Primitive m g → N < 2 ^ m → (marks s flags : List ℕ) → count (marked marks) N ≤ T → Suspected m g N T marks s flags
+-- there are at most T error locations
+pub locations-bounded : (m g N T : ℕ) → Primitive m g → N < 2 ^ m → (marks s flags : List ℕ) → count (marked marks) N ≤ T → HasErrorLocations m g N T marks s flags
     → count (marked flags) N ≤ T
-suspects-bounded m g N T t few marks s flags he su =
+locations-bounded m g N T t few marks s flags he su =
     let short : su .degree ≤ (T - count (marked marks) N) / 2 = su .locator-short in
     let fewer : count (marked flags) N < count (marked marks) N + suc (su .degree) =
-    suspects-are-few F ℕ-discrete N (suc (su .degree)) (reversed (suc (su .degree)) (su .locator)) (place m g N) (marked marks) (marked flags)
+    locations-are-few F ℕ-discrete N (suc (su .degree)) (reversed (suc (su .degree)) (su .locator)) (locatorAt m g N) (marked marks) (marked flags)
     (λ j l. su .locator-in (suc (su .degree) - suc j) (omega arith)) (λ i u. position-in F α N i) (positions-are-distinct F N α (order m g N T t few))
-    (reversed-is-not-zero F (suc (su .degree)) (su .locator) (su .locator-not-zero)) (su .suspects) in
+    (reversed-is-not-zero F (suc (su .degree)) (su .locator) (su .locator-not-zero)) (su .locations) in
     omega arith
   where
     F : Field (λ a. a < 2 ^ m) add (mul m g) 0 1 (inverse m g)

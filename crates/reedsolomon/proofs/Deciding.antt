@@ -86,7 +86,7 @@ module _ (m g N T : ℕ) (t : Primitive m g) (few : N < 2 ^ m) (w marks : List �
   check-is-failed v p c failed =
       none-if m g N T t few w marks
       (λ d hd q. failed-check-means-none-in-reach (K m g N T t few) ℕ-discrete α N T (order m g N T t few) (marked marks) (symbol w) (λ j l. p .inside j)
-      (c .syndromes) (c .rest) (c .size) (c .locator) (c .suspects) (c .number) (c .polynomial) (symbol v) (c .correction) (λ r. failed (r .0) (r .1))
+      (c .syndromes) (c .rest) (c .size) (c .locator) (c .locations) (c .number) (c .polynomial) (symbol v) (c .correction) (λ r. failed (r .0) (r .1))
       (symbol d) (hd .1) (q .0) (q .1))
 
 -- the answer for the row in the longer list is that for the row

@@ -7,7 +7,7 @@ use native.Mathlib.Omega.{arith}
 use Rattle.field.specs.Laws.{Field}
 use Rattle.reedsolomon.specs.Sums.{position, reversed}
 use Rattle.reedsolomon.specs.Words.{Elements, Codeword, OrderAtLeast, count, InReach}
-use Rattle.reedsolomon.specs.Quotient.{amount}
+use Rattle.reedsolomon.specs.Quotient.{magnitude}
 use Rattle.reedsolomon.specs.Decoding.{Correction}
 use Rattle.reedsolomon.proofs.FieldFacts.{sum-twice}
 use Rattle.reedsolomon.proofs.Counting.{true-is-not-false}
@@ -15,8 +15,8 @@ use Rattle.reedsolomon.proofs.Powers.{position-in, position-not-zero, p
 use Rattle.reedsolomon.proofs.Syndromes.{syndrome-of-difference, codeword-of-equals}
 use Rattle.reedsolomon.proofs.Reach.{reach-of-equals, reach-bounds-erasures, at-most-one-codeword-in-reach}
 use Rattle.reedsolomon.proofs.Roots.{reversed-is-not-zero}
-use Rattle.reedsolomon.proofs.Locator.{wrong-columns-in-reach-are-roots, suspects-are-few}
-use Rattle.reedsolomon.proofs.Quotient.{quotient-gives-amount}
+use Rattle.reedsolomon.proofs.Locator.{wrong-columns-in-reach-are-roots, locations-are-few}
+use Rattle.reedsolomon.proofs.Quotient.{quotient-gives-magnitude}
 
 module _ {F : Type 0} {In : F → Type 0} {_⊕_ _⊗_ : F → F → F} {𝟘 𝟙 : F} {inv : F → F} (K : Field In _⊕_ _⊗_ 𝟘 𝟙 inv)
     (same : (a b : F) → Dec (a ≡ b))
@@ -27,53 +27,53 @@ module _ {F : Type 0} {In : F → Type 0} {_⊕_ _⊗_ : F → F → F} {𝟘 �
   abbrev X : ℕ → F
   X = position _⊗_ 𝟙 α N
 
-  -- there are at most T suspects
-  pub suspects-are-at-most-T : count E N ≤ T → k ≤ T
-  suspects-are-at-most-T he =
+  -- there are at most T error locations
+  pub locations-are-at-most-T : count E N ≤ T → k ≤ T
+  locations-are-at-most-T he =
       let n : count U N ≡ k = f .number in
       let short : d ≤ suc ((T - count E N) / 2) = f .locator-short in
       let few : count U N < count E N + d =
-      suspects-are-few K same N d (reversed d p) X E U (λ j l. f .locator-in (d - suc j) (omega arith)) (λ i u. position-in K α N i)
+      locations-are-few K same N d (reversed d p) X E U (λ j l. f .locator-in (d - suc j) (omega arith)) (λ i u. position-in K α N i)
       (positions-are-distinct K N α ord)
-      (reversed-is-not-zero K d p (f .locator-not-zero)) (f .suspects) in
+      (reversed-is-not-zero K d p (f .locator-not-zero)) (f .locations) in
       omega arith
 
   -- a codeword in reach
   module _ (c : ℕ → F) (hc : Elements In N c) (code : Codeword _⊕_ _⊗_ 𝟘 𝟙 α N T c) (reach : InReach same E N T w c) where
-    -- all columns in which it differs from w are suspects
-    pub differences-are-suspects : (j : ℕ) → j < N → U j ≡ false → w j ≡ c j
-    differences-are-suspects j l uj = decide (same (w j) (c j)) (E j) refl
+    -- all columns in which it differs from w are error locations
+    pub differences-are-locations : (j : ℕ) → j < N → U j ≡ false → w j ≡ c j
+    differences-are-locations j l uj = decide (same (w j) (c j)) (E j) refl
       where
         decide : Dec (w j ≡ c j) → (b : Bool) → E j ≡ b → w j ≡ c j
         decide (yes e) b q = e
-        decide (no e) true q = absurd (true-is-not-false (sym (f .erased-is-suspect j l q) ∙ uj))
+        decide (no e) true q = absurd (true-is-not-false (sym (f .erased-is-location j l q) ∙ uj))
         decide (no e) false q =
             absurd
             (true-is-not-false
-            (sym (f .root-is-suspect j l
+            (sym (f .root-is-location j l
             (wrong-columns-in-reach-are-roots K same α N T ord E w c hw hc code S M (f .syndromes) (f .left) d p (f .locator-in) reach
             (f .locator-short) (f .locator-meets) j l q e))
             ∙ uj))
 
-    -- the amount at a suspect is what w differs by from it
-    pub amount-is-difference : (l : ℕ) → l < N → U l ≡ true → amount _⊕_ _⊗_ 𝟘 inv k S g (X l) ≡ w l ⊕ c l
-    amount-is-difference l h ul =
-        quotient-gives-amount K same N X (λ i u. position-in K α N i) (λ i u. position-not-zero K N α ord i) (positions-are-distinct K N α ord)
+    -- the magnitude at an error location is what w differs by from it
+    pub magnitude-is-difference : (l : ℕ) → l < N → U l ≡ true → magnitude _⊕_ _⊗_ 𝟘 inv k S g (X l) ≡ w l ⊕ c l
+    magnitude-is-difference l h ul =
+        quotient-gives-magnitude K same N X (λ i u. position-in K α N i) (λ i u. position-not-zero K N α ord i) (positions-are-distinct K N α ord)
         U k (f .number) g (f .polynomial-in) (f .polynomial-monic) (f .polynomial-roots) l h ul
         S (λ j. w j ⊕ c j) (λ j u. K .in-sum (w j) (c j) (hw j u) (hc j u))
-        (λ j u q. ap (λ (t : F). t ⊕ c j) (differences-are-suspects j u q) ∙ K .sum-self (c j))
+        (λ j u q. ap (λ (t : F). t ⊕ c j) (differences-are-locations j u q) ∙ K .sum-self (c j))
         (λ i u. f .syndromes i (le-trans u few) ∙ syndrome-of-difference K α N T w c hw hc code i (le-trans u few))
       where
         few : k ≤ T
-        few = suspects-are-at-most-T (reach-bounds-erasures same E N T w c reach)
+        few = locations-are-at-most-T (reach-bounds-erasures same E N T w c reach)
 
     -- the corrected word is that codeword
     pub corrected-word-is-codeword-in-reach : (j : ℕ) → j < N → v j ≡ c j
     corrected-word-is-codeword-in-reach j l = decide (U j) refl
       where
         decide : (b : Bool) → U j ≡ b → v j ≡ c j
-        decide true q = f .corrected j l q ∙ ap (λ (t : F). w j ⊕ t) (amount-is-difference j l q) ∙ sum-twice K (w j) (c j)
-        decide false q = f .kept j l q ∙ differences-are-suspects j l q
+        decide true q = f .corrected j l q ∙ ap (λ (t : F). w j ⊕ t) (magnitude-is-difference j l q) ∙ sum-twice K (w j) (c j)
+        decide false q = f .kept j l q ∙ differences-are-locations j l q
 
     -- and so passes the check
     pub corrected-word-passes-check : Codeword _⊕_ _⊗_ 𝟘 𝟙 α N T v × InReach same E N T w v

@@ -1,4 +1,4 @@
--- Few weights at distinct places whose first power sums are 0 are 0 themselves: one place after the other is sifted out. Assumes nothing.
+-- Few weights at distinct locators whose first power sums are 0 are 0 themselves: one locator after the other is taken out. Assumes nothing.
 use mathlib.Core.Path.{_≡_, refl, sym, ap, ap₂, _∙_, subst}
 use mathlib.Core.Logic.{⊎-elim}
 use Prim.Native.Nat.{ℕ, zero, suc, _+_, _≤_, _<_}
@@ -11,7 +11,7 @@ use Rattle.reedsolomon.proofs.FieldFacts.{zero-sum, mul-zero, zero-mul,
 use Rattle.reedsolomon.proofs.Sums.{sum-of-equals, sum-of-zeros}
 use Rattle.reedsolomon.proofs.Powers.{power-in, power-not-zero, power-of-sum}
 use Rattle.reedsolomon.proofs.Counting.{nonzeros-fewer}
-use Rattle.reedsolomon.proofs.PowerSums.{sifted-power-sum, no-weight-at-sifted-place, weight-at-other-place}
+use Rattle.reedsolomon.proofs.PowerSums.{modified-power-sum, no-weight-at-modified-locator, weight-at-other-locator}
 
 module _ {F : Type 0} {In : F → Type 0} {_⊕_ _⊗_ : F → F → F} {𝟘 𝟙 : F} {inv : F → F} (K : Field In _⊕_ _⊗_ 𝟘 𝟙 inv)
     (same : (a b : F) → Dec (a ≡ b)) where
@@ -26,7 +26,7 @@ module _ {F : Type 0} {In : F → Type 0} {_⊕_ _⊗_ : F → F → F} {𝟘 �
   abbrev power-sum : ℕ → (ℕ → F) → (ℕ → F) → ℕ → F
   power-sum n c X i = powerSum _⊕_ _⊗_ 𝟘 𝟙 n c X i
 
-  -- for n places: at most k weights that are not 0, and k power sums that are, leave no weight
+  -- for n locators: at most k weights that are not 0, and k power sums that are, leave no weight
   abbrev NoWeights : ℕ → Type 0
   NoWeights n =
       (k : ℕ) (c X : ℕ → F) → Elements In n c → Elements In n X → Distinct n X → nonzeros same 𝟘 n c ≤ k
@@ -50,19 +50,19 @@ module _ {F : Type 0} {In : F → Type 0} {_⊕_ _⊗_ : F → F → F} {𝟘 �
         (λ i l. sym (sum-zero (power-sum n c X i)) ∙ ap (λ (t : F). power-sum n c X i ⊕ t)
         (sym (zero-mul K (X n ^^ i)) ∙ ap (λ (t : F). t ⊗ X n ^^ i) (sym z)) ∙ h i l)
 
-    -- it is not: it is sifted out
-    last-is-sifted : (k : ℕ) → nonzeros same 𝟘 n c ≤ k → ((i : ℕ) → i < suc k → power-sum (suc n) c X i ≡ 𝟘) → (j : ℕ) → j < n → c j ≡ 𝟘
+    -- it is not: it is taken out
+    last-is-modified : (k : ℕ) → nonzeros same 𝟘 n c ≤ k → ((i : ℕ) → i < suc k → power-sum (suc n) c X i ≡ 𝟘) → (j : ℕ) → j < n → c j ≡ 𝟘
     unfolding sum
-    last-is-sifted k hk h j l =
-        weight-at-other-place K (c j) (X j) (X n) (hc j (below n j l)) (hx j (below n j l)) (hx n (lt-suc-self n))
+    last-is-modified k hk h j l =
+        weight-at-other-locator K (c j) (X j) (X n) (hc j (below n j l)) (hx j (below n j l)) (hx n (lt-suc-self n))
         (λ e. lt-irrefl n (subst (λ (t : ℕ). t < n) (hd j n (below n j l) (lt-suc-self n) e) l))
         (ih k d X (λ i u. in-mul (c i) (X i ⊕ X n)) (λ j l. hx j (below n j l)) distinct
         (le-trans (nonzeros-fewer same 𝟘 n c d (λ i u e. ap (λ (t : F). t ⊗ (X i ⊕ X n)) e ∙ zero-mul K (X i ⊕ X n))) hk)
         (λ i q.
         sym (sum-zero (power-sum n d X i))
         ∙ ap (λ (t : F). power-sum n d X i ⊕ t)
-        (sym (ap (λ (t : F). t ⊗ X n ^^ i) (no-weight-at-sifted-place K (c n) (X n) (X n) refl) ∙ zero-mul K (X n ^^ i)))
-        ∙ sifted-power-sum K (suc n) c X (X n) i
+        (sym (ap (λ (t : F). t ⊗ X n ^^ i) (no-weight-at-modified-locator K (c n) (X n) (X n) refl) ∙ zero-mul K (X n ^^ i)))
+        ∙ modified-power-sum K (suc n) c X (X n) i
         ∙ ap₂ (λ (s t : F). s ⊕ X n ⊗ t) (h (suc i) (suc-le-suc-iff .1 q)) (h i (below k i q))
         ∙ zero-sum K (X n ⊗ 𝟘) ∙ mul-zero K (X n))
         j l)
@@ -77,28 +77,28 @@ module _ {F : Type 0} {In : F → Type 0} {_⊕_ _⊗_ : F → F → F} {𝟘 �
         sym (mul-one (c n) (hc n (lt-suc-self n))) ∙ sym (zero-sum K (c n ⊗ 𝟙))
         ∙ ap (λ (t : F). t ⊕ c n ⊗ 𝟙) (sym (sum-of-zeros K n (λ j. c j ⊗ X j ^^ 0) (λ j l. ap (λ (t : F). t ⊗ X j ^^ 0) (hz j l) ∙ zero-mul K (X j ^^ 0)))) ∙ e
 
-  one-place-more : (n : ℕ) → NoWeights n → NoWeights (suc n)
+  one-locator-more : (n : ℕ) → NoWeights n → NoWeights (suc n)
   unfolding nonzeros unequal
-  one-place-more n ih k c X hc hx hd hk h = last (same (c n) 𝟘) k hk h
+  one-locator-more n ih k c X hc hx hd hk h = last (same (c n) 𝟘) k hk h
     where
       last : (d : Dec (c n ≡ 𝟘)) (k : ℕ) → nonzeros same 𝟘 n c + unequal d ≤ k → ((i : ℕ) → i < k → power-sum (suc n) c X i ≡ 𝟘) → (j : ℕ)
           → j < suc n → c j ≡ 𝟘
       last (yes z) k hk h = up-to n (λ j. c j ≡ 𝟘) z (last-is-zero n ih c X hc hx hd k z (omega arith) h)
       last (no z) zero hk h = absurd (omega arith)
       last (no z) (suc k) hk h =
-          let f : (j : ℕ) → j < n → c j ≡ 𝟘 = last-is-sifted n ih c X hc hx hd k (omega arith) h in
+          let f : (j : ℕ) → j < n → c j ≡ 𝟘 = last-is-modified n ih c X hc hx hd k (omega arith) h in
           up-to n (λ j. c j ≡ 𝟘) (last-alone n ih c X hc hx hd f (h 0 (zero-lt-suc k))) f
 
   no-weights : (n : ℕ) → NoWeights n
   no-weights zero = λ k c X hc hx hd hk h j l. absurd (not-suc-le-zero l)
-  no-weights (suc n) = one-place-more n (no-weights n)
+  no-weights (suc n) = one-locator-more n (no-weights n)
 
-  -- The deletion fact: weights at n distinct places, at most k of them not 0, whose first k power sums are 0, are all 0.
+  -- The deletion fact: weights at n distinct locators, at most k of them not 0, whose first k power sums are 0, are all 0.
   pub zero-power-sums-leave-no-weights : (n k : ℕ) (c X : ℕ → F) → Elements In n c → Elements In n X → Distinct n X → nonzeros same 𝟘 n c ≤ k
       → ((i : ℕ) → i < k → power-sum n c X i ≡ 𝟘) → (j : ℕ) → j < n → c j ≡ 𝟘
   zero-power-sums-leave-no-weights n = no-weights n
 
-  -- The same for k power sums from any index a on, at places other than 0.
+  -- The same for k power sums from any index a on, at locators other than 0.
   pub consecutive-zero-power-sums-leave-no-weights : (n k a : ℕ) (c X : ℕ → F) → Elements In n c → Elements In n X → Distinct n X
       → ((j : ℕ) → j < n → X j ≡ 𝟘 → ⊥)
       → nonzeros same 𝟘 n c ≤ k → ((i : ℕ) → i < k → power-sum n c X (a + i) ≡ 𝟘) → (j : ℕ) → j < n → c j ≡ 𝟘

@@ -9,7 +9,7 @@ use Rattle.field.specs.Laws.{Field}
 use Rattle.reedsolomon.specs.Sums.{power, value, position}
 use Rattle.reedsolomon.specs.Words.{Elements, count, syndrome, Codeword, OrderAtLeast}
 use Rattle.reedsolomon.specs.Product.{ProductPolynomial}
-use Rattle.reedsolomon.specs.Encoding.{Generator, Turned, Divided}
+use Rattle.reedsolomon.specs.Encoding.{Generator, RegisterStep, Divided}
 use Rattle.reedsolomon.proofs.FieldFacts.{mul-zero, zero-mul, sum-mul, sum-twice, mul-exchange}
 use Rattle.reedsolomon.proofs.Polynomials.{value-of-equals, value-of-zeros, value-of-combination, value-first, value-in-parts}
 use Rattle.reedsolomon.proofs.Counting.{count-of-all, nonzeros-of-end}
@@ -29,11 +29,11 @@ module _ {F : Type 0} {In : F → Type 0} {_⊕_ _⊗_ : F → F → F} {𝟘 �
   value-of k p x = value _⊕_ _⊗_ 𝟘 k p x
 
   module _ (T : ℕ) (g : ℕ → F) (monic : g 0 ≡ 𝟙) where
-    -- one turn multiplies the remainder's value at a root b of g by b and adds u * b ^ T
-    pub turn-at-root : (u b : F) (r r′ : ℕ → F) → In u → In (r 0) → r T ≡ 𝟘 → Turned _⊕_ _⊗_ 𝟘 𝟙 T g u r r′ → value-of (suc T) g b ≡ 𝟘
+    -- one register step multiplies the remainder's value at a root b of g by b and adds u * b ^ T
+    pub register-step-at-root : (u b : F) (r r′ : ℕ → F) → In u → In (r 0) → r T ≡ 𝟘 → RegisterStep _⊕_ _⊗_ 𝟘 𝟙 T g u r r′ → value-of (suc T) g b ≡ 𝟘
         → value-of T r′ b ≡ value-of T r b ⊗ b ⊕ u ⊗ b ^^ T
     unfolding value
-    turn-at-root u b r r′ hu hr rT w root =
+    register-step-at-root u b r r′ hu hr rT w root =
         value-of-equals K T r′ (λ i. h (suc i)) b (w .written)
         ∙ sym (sum-twice K (u ⊗ b ^^ T) (value-of T (λ i. h (suc i)) b)) ∙ ap (λ (x : F). u ⊗ b ^^ T ⊕ x) (sym front ∙ whole)
         ∙ sum-comm (u ⊗ b ^^ T) (value-of T r b ⊗ b)
@@ -69,7 +69,7 @@ module _ {F : Type 0} {In : F → Type 0} {_⊕_ _⊗_ : F → F → F} {𝟘 �
         }
 
     pub division-of-one-symbol-more : (d r r′ : ℕ → F) (k : ℕ) → In (d k) → Divided _⊕_ _⊗_ 𝟘 𝟙 In T g d k r
-        → Turned _⊕_ _⊗_ 𝟘 𝟙 T g (d k) r r′
+        → RegisterStep _⊕_ _⊗_ 𝟘 𝟙 T g (d k) r r′
         → Divided _⊕_ _⊗_ 𝟘 𝟙 In T g d (suc k) r′
     unfolding value
     division-of-one-symbol-more d r r′ k hd v w =
@@ -81,7 +81,7 @@ module _ {F : Type 0} {In : F → Type 0} {_⊕_ _⊗_ : F → F → F} {𝟘 �
           ];
           ended = λ i l. w .kept i l ∙ v .ended i l;
           values = λ b e.
-              turn-at-root (d k) b r r′ hd (v .inside 0) (v .ended T (le-refl T)) w e ∙ ap (λ (x : F). x ⊗ b ⊕ d k ⊗ b ^^ T) (v .values b e)
+              register-step-at-root (d k) b r r′ hd (v .inside 0) (v .ended T (le-refl T)) w e ∙ ap (λ (x : F). x ⊗ b ⊕ d k ⊗ b ^^ T) (v .values b e)
               ∙ ap (λ (x : F). x ⊕ d k ⊗ b ^^ T) (mul-exchange K (value-of k d b) (b ^^ T) b)
               ∙ sym (sum-mul K (value-of k d b ⊗ b) (d k) (b ^^ T));
         }

@@ -11,9 +11,9 @@ use Rattle.field.specs.Element.{mul, inverse, α}
 use Rattle.field.specs.Laws.{Field}
 use Rattle.reedsolomon.specs.Sums.{sum, power, value}
 use Rattle.reedsolomon.specs.Words.{Elements}
-use Rattle.reedsolomon.specs.Quotient.{quotient, denominator, numerator, amount}
+use Rattle.reedsolomon.specs.Quotient.{quotient, denominator, numerator, magnitude}
 use Rattle.reedsolomon.specs.Row.{symbol}
-use Rattle.reedsolomon.specs.Steps.{Entries, Written, Padded, place, placeSum, Summed, HasSyndromes}
+use Rattle.reedsolomon.specs.Steps.{Entries, Written, Padded, locatorAt, locatorSum, Summed, HasSyndromes}
 use Rattle.reedsolomon.proofs.FieldFacts.{zero-sum, zero-mul}
 use Rattle.reedsolomon.proofs.Sums.{sum-of-equals, sum-in-parts, sum-without-end}
 use Rattle.reedsolomon.proofs.Syndromes.{syndrome-is-sum}
@@ -42,21 +42,21 @@ module _ (m g : ℕ) (K : Field (λ a. a < 2 ^ m) add (mul m g) 0 1 (inverse m g
       exchange : (x w p : ℕ) → mul m g x (mul m g w p) ≡ mul m g w (mul m g x p)
       exchange x w p = sym (K .mul-assoc x w p) ∙ ap (λ (t : ℕ). mul m g t p) (K .mul-comm x w) ∙ K .mul-assoc w x p
 
-  pub sum-of-weights : (n : ℕ) (w xs c : List ℕ) (i : ℕ) → Entries n (weight w xs (i + 1)) c → sum add 0 n (symbol c) ≡ placeSum m g n (symbol w) (symbol xs) i
-  unfolding placeSum
+  pub sum-of-weights : (n : ℕ) (w xs c : List ℕ) (i : ℕ) → Entries n (weight w xs (i + 1)) c → sum add 0 n (symbol c) ≡ locatorSum m g n (symbol w) (symbol xs) i
+  unfolding locatorSum
   sum-of-weights n w xs c i h = sum-of-equals K n (symbol c) (weight w xs (suc i)) (λ l u. h l u ∙ ap (λ (x : ℕ). weight w xs x l) (add-one i))
 
   -- s with the power sums of the first n entries
   abbrev pub AddedTo : ℕ → ℕ → List ℕ → List ℕ → List ℕ → List ℕ → Type 0
-  AddedTo n t w xs s r = Written t (λ i. add (symbol s i) (placeSum m g n (symbol w) (symbol xs) i)) s r
+  AddedTo n t w xs s r = Written t (λ i. add (symbol s i) (locatorSum m g n (symbol w) (symbol xs) i)) s r
 
   pub no-block : (t : ℕ) (w xs s : List ℕ) → AddedTo 0 t w xs s s
-  unfolding placeSum sum
+  unfolding locatorSum sum
   no-block t w xs s = record { written = λ i l. sym (K .sum-zero (symbol s i)); kept = λ i l. refl }
 
   pub one-more-block : (t b : ℕ) (w xs x y s r r′ : List ℕ) → Entries 16 (λ i. symbol w (b * 16 + i)) x → Entries 16 (λ i. symbol xs (b * 16 + i)) y
       → AddedTo (b * 16) t w xs s r → AddedTo 16 t x y r r′ → AddedTo ((b + 1) * 16) t w xs s r′
-  unfolding placeSum
+  unfolding locatorSum
   one-more-block t b w xs x y s r r′ ex ey f f′ =
       let e : b * 16 + 16 ≡ (b + 1) * 16 = omega arith in
       record {
@@ -70,8 +70,8 @@ module _ (m g : ℕ) (K : Field (λ a. a < 2 ^ m) add (mul m g) 0 1 (inverse m g
       }
 
   -- the sums over more columns than there are, in which 0 stands, are the syndromes
-  pub syndromes-by-sums : (N k t n : ℕ) (w all s : List ℕ) → N ≤ k → Padded m N w → Entries N (place m g N) all → Summed m g k t w all (replicate n 0) s → HasSyndromes m g N t w s
-  unfolding placeSum
+  pub syndromes-by-sums : (N k t n : ℕ) (w all s : List ℕ) → N ≤ k → Padded m N w → Entries N (locatorAt m g N) all → Summed m g k t w all (replicate n 0) s → HasSyndromes m g N t w s
+  unfolding locatorSum
   syndromes-by-sums N k t n w all s room p hall f =
       record {
         syndromes = λ i l.
@@ -79,7 +79,7 @@ module _ (m g : ℕ) (K : Field (λ a. a < 2 ^ m) add (mul m g) 0 1 (inverse m g
             ∙ ap (λ (x : ℕ). sum add 0 x (weight w all (suc i))) split
             ∙ sum-without-end K N (f .number - N) (weight w all (suc i))
             (λ j u v. ap (λ (x : ℕ). mul m g x (power (mul m g) 1 (symbol all j) (suc i))) (p .ended j u) ∙ zero-mul K (power (mul m g) 1 (symbol all j) (suc i)))
-            ∙ sum-of-equals K N (weight w all (suc i)) (λ j. mul m g (symbol w j) (power (mul m g) 1 (place m g N j) (suc i)))
+            ∙ sum-of-equals K N (weight w all (suc i)) (λ j. mul m g (symbol w j) (power (mul m g) 1 (locatorAt m g N j) (suc i)))
             (λ j u. ap (λ (x : ℕ). mul m g (symbol w j) (power (mul m g) 1 x (suc i))) (hall j u))
             ∙ sym (syndrome-is-sum K α N (symbol w) i (λ j u. p .inside j));
         ended = λ i l. f .sums .kept i l ∙ zeros-at n i;
@@ -104,7 +104,7 @@ module _ (m g : ℕ) (K : Field (λ a. a < 2 ^ m) add (mul m g) 0 1 (inverse m g
       h′ i l ∙ ap₂ add (ap (mul m g (symbol xs i)) (h i l) ∙ K .mul-comm (symbol xs i) (valueAt k p xs i)) e
       ∙ ap (λ (x : ℕ). valueAt x p xs i) (sym (add-one k))
 
-  -- ---- the recurrences of the amounts
+  -- ---- the recurrences of the magnitudes
 
   pub denominators-begin : (n : ℕ) (p : ℕ → ℕ) (xs : List ℕ) → Entries 16 (λ i. denominator add (mul m g) 0 p (symbol xs i) 0) (replicate n 0)
   unfolding denominator
@@ -131,10 +131,10 @@ module _ (m g : ℕ) (K : Field (λ a. a < 2 ^ m) add (mul m g) 0 1 (inverse m g
       h′ i l ∙ ap₂ add (h i l) (ap₂ (mul m g) he (hq i l ∙ ap (λ (x : ℕ). valueAt x p xs i) (add-one j)))
       ∙ ap (numerator add (mul m g) 0 k S p (symbol xs i)) (sym (add-one j))
 
-  pub amounts-end : (k : ℕ) (S p : ℕ → ℕ) (xs a d x y r : List ℕ) → Entries 16 (λ i. numerator add (mul m g) 0 k S p (symbol xs i) k) a
+  pub magnitudes-end : (k : ℕ) (S p : ℕ → ℕ) (xs a d x y r : List ℕ) → Entries 16 (λ i. numerator add (mul m g) 0 k S p (symbol xs i) k) a
       → Entries 16 (λ i. denominator add (mul m g) 0 p (symbol xs i) k) d → Entries 16 (λ i. mul m g (symbol d i) (symbol xs i)) x
       → Entries 16 (λ i. inverse m g (symbol x i)) y → Entries 16 (λ i. mul m g (symbol a i) (symbol y i)) r
-      → Entries 16 (λ i. amount add (mul m g) 0 (inverse m g) k S p (symbol xs i)) r
-  unfolding amount
-  amounts-end k S p xs a d x y r ha hd hx hy hr i l =
+      → Entries 16 (λ i. magnitude add (mul m g) 0 (inverse m g) k S p (symbol xs i)) r
+  unfolding magnitude
+  magnitudes-end k S p xs a d x y r ha hd hx hy hr i l =
       hr i l ∙ ap₂ (mul m g) (ha i l) (hy i l ∙ ap (inverse m g) (hx i l ∙ ap (λ (z : ℕ). mul m g z (symbol xs i)) (hd i l)))

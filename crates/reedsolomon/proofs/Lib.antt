@@ -7,7 +7,7 @@ pub mod PowerSums
 pub mod Deletion
 pub mod Roots
 pub mod Quotient
-pub mod Sifting
+pub mod ModifiedSyndromes
 pub mod Product
 pub mod Syndromes
 pub mod Reach
@@ -25,8 +25,8 @@ pub mod Remainders
 pub mod Lanes
 pub mod Marks
 pub mod Rows
-pub mod Places
-pub mod Stripping
+pub mod Locators
+pub mod ErasedColumns
 pub mod Correcting
 pub mod Deciding
 pub mod Encoded

@@ -16,7 +16,7 @@ use lib.Seq.{getD-set-same, getD-set-other}
 use Rattle.poly.specs.Polynomial.{add}
 use Rattle.reedsolomon.specs.Words.{indicator, count, errors, wrong}
 use Rattle.reedsolomon.specs.Row.{symbol, marked}
-use Rattle.reedsolomon.specs.Steps.{place, Flagged, PlacesOf, Added}
+use Rattle.reedsolomon.specs.Steps.{locatorAt, Flagged, LocatorsOf, Added}
 use Rattle.reedsolomon.proofs.Counting.{true-is-not-false, count-of-marked, count-of-unmarked, unequal-at-most-one, unequal-of-equal}
 use Rattle.reedsolomon.proofs.Listing.{fewer-marks-before}
 
@@ -114,41 +114,41 @@ module _ (m g : ℕ) where
       there : (i : ℕ) → i < j → marked (set flags j v) i ≡ marked flags i
       there i u = unfold marked in ap (λ (x : ℕ). eqb x 1) (getD-set-other flags j i v 0 (λ q. lt-irrefl i (omega arith)))
 
-  -- the places of the marked columns: the next place is written behind those before, marked or not
-  pub one-more-place : (N : ℕ) (flags xs : List ℕ) (j k : ℕ) → k ≡ count (marked flags) j → k < length xs
-      → ((i : ℕ) → i < j → marked flags i ≡ true → symbol xs (count (marked flags) i) ≡ place m g N i)
-      → (i : ℕ) → i < j + 1 → marked flags i ≡ true → symbol (set xs k (place m g N j)) (count (marked flags) i) ≡ place m g N i
-  one-more-place N flags xs j k e h f i l q =
+  -- the locators of the marked columns: the next locator is written behind those before, marked or not
+  pub one-more-locator : (N : ℕ) (flags xs : List ℕ) (j k : ℕ) → k ≡ count (marked flags) j → k < length xs
+      → ((i : ℕ) → i < j → marked flags i ≡ true → symbol xs (count (marked flags) i) ≡ locatorAt m g N i)
+      → (i : ℕ) → i < j + 1 → marked flags i ≡ true → symbol (set xs k (locatorAt m g N j)) (count (marked flags) i) ≡ locatorAt m g N i
+  one-more-locator N flags xs j k e h f i l q =
       ⊎-elim
-      (λ z. ap (symbol (set xs k (place m g N j))) (ap (count (marked flags)) z ∙ sym e) ∙ getD-set-same xs k (place m g N j) 0 h ∙ ap (place m g N) (sym z))
+      (λ z. ap (symbol (set xs k (locatorAt m g N j))) (ap (count (marked flags)) z ∙ sym e) ∙ getD-set-same xs k (locatorAt m g N j) 0 h ∙ ap (locatorAt m g N) (sym z))
       (λ u. let less : count (marked flags) i < count (marked flags) j = fewer-marks-before (marked flags) j i u q in
-      getD-set-other xs k (count (marked flags) i) (place m g N j) 0 (λ y. lt-irrefl k (omega arith)) ∙ f i u q)
+      getD-set-other xs k (count (marked flags) i) (locatorAt m g N j) 0 (λ y. lt-irrefl k (omega arith)) ∙ f i u q)
       (up-to j i l)
 
-  -- what the last column left behind the places is cleared
-  pub places-end : (N : ℕ) (flags xs : List ℕ) (k : ℕ) → k ≡ count (marked flags) N → k < length xs
-      → ((i : ℕ) → i < N → marked flags i ≡ true → symbol xs (count (marked flags) i) ≡ place m g N i) → ((i : ℕ) → k < i → symbol xs i ≡ 0) → PlacesOf m g N flags (set xs k 0) k
-  places-end N flags xs k e h f z =
+  -- what the last column left behind the locators is cleared
+  pub locators-end : (N : ℕ) (flags xs : List ℕ) (k : ℕ) → k ≡ count (marked flags) N → k < length xs
+      → ((i : ℕ) → i < N → marked flags i ≡ true → symbol xs (count (marked flags) i) ≡ locatorAt m g N i) → ((i : ℕ) → k < i → symbol xs i ≡ 0) → LocatorsOf m g N flags (set xs k 0) k
+  locators-end N flags xs k e h f z =
       record {
         number = e;
-        places = λ j l q. let less : count (marked flags) j < count (marked flags) N = fewer-marks-before (marked flags) N j l q in
+        locators = λ j l q. let less : count (marked flags) j < count (marked flags) N = fewer-marks-before (marked flags) N j l q in
             getD-set-other xs k (count (marked flags) j) 0 0 (λ y. lt-irrefl k (omega arith)) ∙ f j l q;
         ended = λ i l. ⊎-elim (λ q. ap (symbol (set xs k 0)) (sym q) ∙ getD-set-same xs k 0 0 h) (λ u. getD-set-other xs k i 0 0 (λ y. lt-irrefl k (omega arith)) ∙ z i u)
             (eq-or-lt-of-le l);
       }
 
   pub none-added : (flags ys w : List ℕ) → Added m g 0 flags ys w w
-  none-added flags ys w = record { suspect = λ j l. absurd (not-suc-le-zero l); other = λ j l. absurd (not-suc-le-zero l); after = λ j l. refl }
+  none-added flags ys w = record { location = λ j l. absurd (not-suc-le-zero l); other = λ j l. absurd (not-suc-le-zero l); after = λ j l. refl }
 
   pub one-more-added : (flags ys w v : List ℕ) (j k : ℕ) → j < length v → k ≡ count (marked flags) j → symbol flags j ≡ 1 → Added m g j flags ys w v
       → Added m g (j + 1) flags ys w (set v j (bitXor (symbol v j) (symbol ys k)))
   unfolding add
   one-more-added flags ys w v j k h e q f =
       record {
-        suspect = λ i l y. ⊎-elim
+        location = λ i l y. ⊎-elim
             (λ z. ap (symbol new) z ∙ getD-set-same v j _ 0 h ∙ ap₂ bitXor (f .after j (le-refl j)) (ap (symbol ys) e)
             ∙ ap (λ (x : ℕ). bitXor (symbol w x) (symbol ys (count (marked flags) x))) (sym z))
-            (λ u. there i (λ z. lt-irrefl i (omega arith)) ∙ f .suspect i u y) (up-to j i l);
+            (λ u. there i (λ z. lt-irrefl i (omega arith)) ∙ f .location i u y) (up-to j i l);
         other = λ i l y. ⊎-elim (λ z. absurd (true-is-not-false (sym (is-marked flags j q) ∙ ap (marked flags) (sym z) ∙ y)))
             (λ u. there i (λ z. lt-irrefl i (omega arith)) ∙ f .other i u y) (up-to j i l);
         after = λ i l. there i (λ z. lt-irrefl i (omega arith)) ∙ f .after i (omega arith);
@@ -163,7 +163,7 @@ module _ (m g : ℕ) where
   pub one-more-passed : (flags ys w v : List ℕ) (j : ℕ) → (symbol flags j ≡ 1 → ⊥) → Added m g j flags ys w v → Added m g (j + 1) flags ys w v
   one-more-passed flags ys w v j q f =
       record {
-        suspect = λ i l y. ⊎-elim (λ z. absurd (q (mark-is-one flags j (ap (marked flags) (sym z) ∙ y)))) (λ u. f .suspect i u y) (up-to j i l);
+        location = λ i l y. ⊎-elim (λ z. absurd (q (mark-is-one flags j (ap (marked flags) (sym z) ∙ y)))) (λ u. f .location i u y) (up-to j i l);
         other = λ i l y. ⊎-elim (λ z. f .after i (omega arith)) (λ u. f .other i u y) (up-to j i l);
         after = λ i l. f .after i (omega arith);
       }

@@ -1,4 +1,4 @@
--- Power sums: taking a place out, and combining them with the coefficients of a polynomial. Assumes nothing.
+-- Power sums: taking a locator out, and combining them with the coefficients of a polynomial. Assumes nothing.
 use mathlib.Core.Path.{_≡_, sym, ap, ap₂, _∙_}
 use Prim.Native.Nat.{ℕ, zero, suc, _+_, _-_}
 use native.Mathlib.Omega.{arith}
@@ -22,24 +22,24 @@ module _ {F : Type 0} {In : F → Type 0} {_⊕_ _⊗_ : F → F → F} {𝟘 �
   abbrev value-of : ℕ → (ℕ → F) → F → F
   value-of k p x = value _⊕_ _⊗_ 𝟘 k p x
 
-  -- taking the place y out of a sequence of power sums multiplies each weight by the distance of its place to y
-  pub sifted-power-sum : (n : ℕ) (c X : ℕ → F) (y : F) (i : ℕ)
+  -- taking the locator y out of a sequence of power sums multiplies each weight by the distance of its locator to y
+  pub modified-power-sum : (n : ℕ) (c X : ℕ → F) (y : F) (i : ℕ)
       → power-sum n (λ j. c j ⊗ (X j ⊕ y)) X i ≡ power-sum n c X (suc i) ⊕ y ⊗ power-sum n c X i
   unfolding power
-  sifted-power-sum n c X y i =
+  modified-power-sum n c X y i =
       sum-of-equals K n (λ j. c j ⊗ (X j ⊕ y) ⊗ X j ^^ i) (λ j. c j ⊗ (X j ⊗ X j ^^ i) ⊕ y ⊗ (c j ⊗ X j ^^ i))
       (λ j l. ap (λ (t : F). t ⊗ X j ^^ i) (mul-sum (c j) (X j) y) ∙ sum-mul K (c j ⊗ X j) (c j ⊗ y) (X j ^^ i)
       ∙ ap₂ _⊕_ (mul-assoc (c j) (X j) (X j ^^ i)) (ap (λ (t : F). t ⊗ X j ^^ i) (mul-comm (c j) y) ∙ mul-assoc y (c j) (X j ^^ i)))
       ∙ sum-of-sums K n (λ j. c j ⊗ X j ^^ suc i) (λ j. y ⊗ (c j ⊗ X j ^^ i))
       ∙ ap (λ (t : F). power-sum n c X (suc i) ⊕ t) (sum-of-multiples K n y (λ j. c j ⊗ X j ^^ i))
 
-  -- at the place itself the weight is now 0
-  pub no-weight-at-sifted-place : (c x y : F) → x ≡ y → c ⊗ (x ⊕ y) ≡ 𝟘
-  no-weight-at-sifted-place c x y e = ap (λ (t : F). c ⊗ (t ⊕ y)) e ∙ ap (λ (t : F). c ⊗ t) (sum-self y) ∙ mul-zero K c
+  -- at the locator itself the weight is now 0
+  pub no-weight-at-modified-locator : (c x y : F) → x ≡ y → c ⊗ (x ⊕ y) ≡ 𝟘
+  no-weight-at-modified-locator c x y e = ap (λ (t : F). c ⊗ (t ⊕ y)) e ∙ ap (λ (t : F). c ⊗ t) (sum-self y) ∙ mul-zero K c
 
   -- elsewhere it is 0 only where it was
-  pub weight-at-other-place : (c x y : F) → In c → In x → In y → (x ≡ y → ⊥) → c ⊗ (x ⊕ y) ≡ 𝟘 → c ≡ 𝟘
-  weight-at-other-place c x y hc hx hy ne e = no-divisor K c (x ⊕ y) hc (in-sum x y hx hy) (λ z. ne (sum-cancel K x y z)) e
+  pub weight-at-other-locator : (c x y : F) → In c → In x → In y → (x ≡ y → ⊥) → c ⊗ (x ⊕ y) ≡ 𝟘 → c ≡ 𝟘
+  weight-at-other-locator c x y hc hx hy ne e = no-divisor K c (x ⊕ y) hc (in-sum x y hx hy) (λ z. ne (sum-cancel K x y z)) e
 
   -- the coefficients of a polynomial combine the power sums to those of the weights times its values
   pub combined-power-sums : (n : ℕ) (c X : ℕ → F) (k : ℕ) (p : ℕ → F) (i : ℕ)

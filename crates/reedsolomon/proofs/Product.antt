@@ -1,4 +1,4 @@
--- The polynomial with the marked places as its roots, built by sifting. Assumes nothing.
+-- The polynomial with the marked locators as its roots, built one factor after the other. Assumes nothing.
 use mathlib.Core.Path.{_≡_, sym, ap, ap₂, _∙_, subst}
 use mathlib.Core.Bool.{Bool, true}
 use Prim.Native.Nat.{ℕ, suc, _+_, _<_}
@@ -9,11 +9,11 @@ use native.Mathlib.Omega.{arith}
 use Rattle.field.specs.Laws.{Field}
 use Rattle.reedsolomon.specs.Sums.{power, value}
 use Rattle.reedsolomon.specs.Words.{indicator, count}
-use Rattle.reedsolomon.specs.Sifting.{timesDistanceIf, timesDistances}
-use Rattle.reedsolomon.specs.Product.{Monic, ProductPolynomial, Sifted}
+use Rattle.reedsolomon.specs.ModifiedSyndromes.{timesDistanceIf, timesDistances}
+use Rattle.reedsolomon.specs.Product.{Monic, ProductPolynomial, ModifiedUpTo}
 use Rattle.reedsolomon.proofs.FieldFacts.{zero-sum, mul-zero, zero-mul}
 use Rattle.reedsolomon.proofs.Polynomials.{value-of-equals, value-of-combination, value-first}
-use Rattle.reedsolomon.proofs.Sifting.{distances-at-marked-place}
+use Rattle.reedsolomon.proofs.ModifiedSyndromes.{distances-at-marked-locator}
 
 module _ {F : Type 0} {In : F → Type 0} {_⊕_ _⊗_ : F → F → F} {𝟘 𝟙 : F} {inv : F → F} (K : Field In _⊕_ _⊗_ 𝟘 𝟙 inv) where
   infixl 20 _⊕_
@@ -35,11 +35,11 @@ module _ {F : Type 0} {In : F → Type 0} {_⊕_ _⊗_ : F → F → F} {𝟘 �
         values = λ i q x. ap₂ _⊕_ (zero-mul K x) (ap s (let z : i + 0 ≡ e = omega arith in z) ∙ one) ∙ zero-sum K 𝟙;
       }
 
-  -- sifting y multiplies the polynomial by x + y
-  pub sifting-multiplies : (e k : ℕ) (D : F → F) (y : F) (s s′ : ℕ → F) → k < e → Monic In _⊕_ _⊗_ 𝟘 𝟙 e k D s → Sifted _⊕_ _⊗_ e y s s′
+  -- one step of modifying, by y, multiplies the polynomial by x + y
+  pub modifying-multiplies : (e k : ℕ) (D : F → F) (y : F) (s s′ : ℕ → F) → k < e → Monic In _⊕_ _⊗_ 𝟘 𝟙 e k D s → ModifiedUpTo _⊕_ _⊗_ e y s s′
       → Monic In _⊕_ _⊗_ 𝟘 𝟙 e (suc k) (λ x. D x ⊗ (x ⊕ y)) s′
   unfolding value
-  sifting-multiplies e k D y s s′ room m w =
+  modifying-multiplies e k D y s s′ room m w =
       record {
         inside = λ i. elim (decLe i e) [
           | yes l ↦ subst In (sym (w .written i l)) (in-sum (s (suc i)) (y ⊗ s i) (m .inside (suc i)) (in-mul y (s i)))
@@ -77,17 +77,17 @@ module _ {F : Type 0} {In : F → Type 0} {_⊕_ _⊗_ : F → F → F} {𝟘 �
           ∙ zero-sum K (D x)
 
   module _ (X : ℕ → F) (E : ℕ → Bool) (e : ℕ) where
-    pub product-of-no-places : (s : ℕ → F) → s e ≡ 𝟙 → ((i : ℕ) → (i ≡ e → ⊥) → s i ≡ 𝟘) → ProductPolynomial In _⊕_ _⊗_ 𝟘 𝟙 X E 0 e s
+    pub product-of-no-locators : (s : ℕ → F) → s e ≡ 𝟙 → ((i : ℕ) → (i ≡ e → ⊥) → s i ≡ 𝟘) → ProductPolynomial In _⊕_ _⊗_ 𝟘 𝟙 X E 0 e s
     unfolding count timesDistances
-    product-of-no-places s = monic-start e s
+    product-of-no-locators s = monic-start e s
 
-    pub product-with-marked-place : (n : ℕ) (s s′ : ℕ → F) → E n ≡ true → count E n < e → ProductPolynomial In _⊕_ _⊗_ 𝟘 𝟙 X E n e s
-        → Sifted _⊕_ _⊗_ e (X n) s s′ → ProductPolynomial In _⊕_ _⊗_ 𝟘 𝟙 X E (suc n) e s′
+    pub product-with-marked-locator : (n : ℕ) (s s′ : ℕ → F) → E n ≡ true → count E n < e → ProductPolynomial In _⊕_ _⊗_ 𝟘 𝟙 X E n e s
+        → ModifiedUpTo _⊕_ _⊗_ e (X n) s s′ → ProductPolynomial In _⊕_ _⊗_ 𝟘 𝟙 X E (suc n) e s′
     unfolding count indicator timesDistances timesDistanceIf
-    product-with-marked-place n s s′ q room m w =
-        rw (q, add-one (count E n)) (sifting-multiplies e (count E n) (λ x. timesDistances _⊕_ _⊗_ X E n x 𝟙) (X n) s s′ room m w)
+    product-with-marked-locator n s s′ q room m w =
+        rw (q, add-one (count E n)) (modifying-multiplies e (count E n) (λ x. timesDistances _⊕_ _⊗_ X E n x 𝟙) (X n) s s′ room m w)
 
-    -- each marked place is a root
+    -- each marked locator is a root
     pub product-has-marked-roots : (n : ℕ) (s : ℕ → F) → ProductPolynomial In _⊕_ _⊗_ 𝟘 𝟙 X E n e s → (b : ℕ) → b + count E n ≡ e
         → (j : ℕ) → j < n → E j ≡ true → value-of (suc (count E n)) (λ i. s (b + i)) (X j) ≡ 𝟘
-    product-has-marked-roots n s m b q j l ej = m .values b q (X j) ∙ distances-at-marked-place K X E n j 𝟙 l ej
+    product-has-marked-roots n s m b q j l ej = m .values b q (X j) ∙ distances-at-marked-locator K X E n j 𝟙 l ej

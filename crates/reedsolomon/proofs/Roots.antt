@@ -12,7 +12,7 @@ use Rattle.reedsolomon.specs.Quotient.{quotient}
 use Rattle.reedsolomon.proofs.FieldFacts.{zero-sum, zero-mul, sum-mul, mul-exchange}
 use Rattle.reedsolomon.proofs.Polynomials.{value-in}
 use Rattle.reedsolomon.proofs.Counting.{nonzeros-fewer, marked-zeros-and-nonzeros}
-use Rattle.reedsolomon.proofs.PowerSums.{weight-at-other-place}
+use Rattle.reedsolomon.proofs.PowerSums.{weight-at-other-locator}
 
 module _ {F : Type 0} {In : F → Type 0} {_⊕_ _⊗_ : F → F → F} {𝟘 𝟙 : F} {inv : F → F} (K : Field In _⊕_ _⊗_ 𝟘 𝟙 inv) where
   infixl 20 _⊕_
@@ -26,14 +26,14 @@ module _ {F : Type 0} {In : F → Type 0} {_⊕_ _⊗_ : F → F → F} {𝟘 �
   quotient-of p r = quotient _⊕_ _⊗_ 𝟘 p r
 
   -- division by x + r, whose remainder is the value at r
-  pub divided-by-place : (k : ℕ) (p : ℕ → F) (r x : F)
+  pub divided-by-locator : (k : ℕ) (p : ℕ → F) (r x : F)
       → value-of (suc k) p x ≡ value-of k (quotient-of p r) x ⊗ (x ⊕ r) ⊕ value-of (suc k) p r
   unfolding value quotient
-  divided-by-place zero p r x =
+  divided-by-locator zero p r x =
       ap (λ (t : F). t ⊕ p 0) (zero-mul K x ∙ sym (zero-mul K r))
       ∙ sym (ap (λ (t : F). t ⊕ (𝟘 ⊗ r ⊕ p 0)) (zero-mul K (x ⊕ r)) ∙ zero-sum K (𝟘 ⊗ r ⊕ p 0))
-  divided-by-place (suc k) p r x =
-      ap (λ (t : F). t ⊗ x ⊕ p (suc k)) (divided-by-place k p r x)
+  divided-by-locator (suc k) p r x =
+      ap (λ (t : F). t ⊗ x ⊕ p (suc k)) (divided-by-locator k p r x)
       ∙ regroup (value-of k (quotient-of p r) x) (value-of (suc k) p r) (p (suc k))
     where
       added-twice : (h : F) → h ⊗ x ≡ h ⊗ (x ⊕ r) ⊕ h ⊗ r
@@ -57,9 +57,9 @@ module _ {F : Type 0} {In : F → Type 0} {_⊕_ _⊗_ : F → F → F} {𝟘 �
   pub quotient-keeps-other-roots : (k : ℕ) (p : ℕ → F) (r x : F) → Elements In (suc k) p → In r → In x → (x ≡ r → ⊥)
       → value-of (suc k) p r ≡ 𝟘 → value-of (suc k) p x ≡ 𝟘 → value-of k (quotient-of p r) x ≡ 𝟘
   quotient-keeps-other-roots k p r x hp hr hx ne z e =
-      weight-at-other-place K (value-of k (quotient-of p r) x) x r (value-in K k (quotient-of p r) x (quotient-in k p r hp)) hx hr ne
+      weight-at-other-locator K (value-of k (quotient-of p r) x) x r (value-in K k (quotient-of p r) x (quotient-in k p r hp)) hx hr ne
       (sym (sum-zero (value-of k (quotient-of p r) x ⊗ (x ⊕ r))) ∙ ap (λ (t : F). value-of k (quotient-of p r) x ⊗ (x ⊕ r) ⊕ t)
-      (sym z) ∙ sym (divided-by-place k p r x) ∙ e)
+      (sym z) ∙ sym (divided-by-locator k p r x) ∙ e)
 
   -- where the quotient's coefficients are all 0 and r is a root, so are the polynomial's
   zero-quotient : (k : ℕ) (p : ℕ → F) (r : F) → ((j : ℕ) → j < k → quotient-of p r j ≡ 𝟘) → value-of (suc k) p r ≡ 𝟘 → (j : ℕ) → j < suc k
@@ -87,23 +87,23 @@ module _ {F : Type 0} {In : F → Type 0} {_⊕_ _⊗_ : F → F → F} {𝟘 �
         (k : ℕ) (p X : ℕ → F) → Elements In k p → Elements In n X → Distinct n X → NonZero 𝟘 k p
         → n < nonzeros same 𝟘 n (λ l. value-of k p (X l)) + k
 
-    one-place-more : (n : ℕ) → FewRoots n → FewRoots (suc n)
+    one-locator-more : (n : ℕ) → FewRoots n → FewRoots (suc n)
     unfolding nonzeros unequal
-    one-place-more n ih k p X hp hx hd nz = last k (same (value-of k p (X n)) 𝟘) hp nz
+    one-locator-more n ih k p X hp hx hd nz = last k (same (value-of k p (X n)) 𝟘) hp nz
       where
         distinct : Distinct n X
         distinct i j p q = hd i j (le-trans p (le-suc n)) (le-trans q (le-suc n))
 
-        places : Elements In n X
-        places j l = hx j (le-trans l (le-suc n))
+        locators : Elements In n X
+        locators j l = hx j (le-trans l (le-suc n))
 
         last : (k : ℕ) (d : Dec (value-of k p (X n) ≡ 𝟘)) → Elements In k p → NonZero 𝟘 k p
             → suc n < nonzeros same 𝟘 n (λ l. value-of k p (X l)) + unequal d + k
-        last k (no z) hp nz = let h : n < nonzeros same 𝟘 n (λ l. value-of k p (X l)) + k = ih k p X hp places distinct nz in omega arith
+        last k (no z) hp nz = let h : n < nonzeros same 𝟘 n (λ l. value-of k p (X l)) + k = ih k p X hp locators distinct nz in omega arith
         last zero (yes z) hp nz = absurd (nz (λ j l. absurd (not-suc-le-zero l)))
         last (suc k) (yes z) hp nz =
             let q : ℕ → F = quotient-of p (X n) in
-            let h : n < nonzeros same 𝟘 n (λ l. value-of k q (X l)) + k = ih k q X (quotient-in k p (X n) hp) places distinct
+            let h : n < nonzeros same 𝟘 n (λ l. value-of k q (X l)) + k = ih k q X (quotient-in k p (X n) hp) locators distinct
             (λ hq. nz (zero-quotient k p (X n) hq z)) in
             let g : nonzeros same 𝟘 n (λ l. value-of k q (X l)) ≤ nonzeros same 𝟘 n (λ l. value-of (suc k) p (X l)) =
             nonzeros-fewer same 𝟘 n (λ l. value-of (suc k) p (X l)) (λ l. value-of k q (X l))
@@ -118,14 +118,14 @@ module _ {F : Type 0} {In : F → Type 0} {_⊕_ _⊗_ : F → F → F} {𝟘 �
         positive : (k : ℕ) → {p : ℕ → F} → NonZero 𝟘 k p → 0 < 0 + k
         positive zero nz = absurd (nz (λ j l. absurd (not-suc-le-zero l)))
         positive (suc k) nz = omega arith
-    few-roots (suc n) = one-place-more n (few-roots n)
+    few-roots (suc n) = one-locator-more n (few-roots n)
 
-    -- of n distinct places, all but fewer than k are no roots of a polynomial of k coefficients that are not all 0
+    -- of n distinct locators, all but fewer than k are no roots of a polynomial of k coefficients that are not all 0
     pub polynomial-has-few-roots : (n k : ℕ) (p X : ℕ → F) → Elements In k p → Elements In n X → Distinct n X → NonZero 𝟘 k p
         → n < nonzeros same 𝟘 n (λ l. value-of k p (X l)) + k
     polynomial-has-few-roots n = few-roots n
 
-    -- so fewer than k distinct places can all be roots
+    -- so fewer than k distinct locators can all be roots
     pub fewer-roots-than-coefficients : (n k : ℕ) (p X : ℕ → F) (U : ℕ → Bool) → Elements In k p → Elements In n X → Distinct n X
         → NonZero 𝟘 k p
         → ((j : ℕ) → j < n → U j ≡ true → value-of k p (X j) ≡ 𝟘) → count U n < k

@@ -12,7 +12,7 @@ module _ {F : Type 0} (_⊕_ _⊗_ : F → F → F) (𝟘 𝟙 : F) where
     pub roots : (i : ℕ) → i < T → value _⊕_ _⊗_ 𝟘 (suc T) g (power _⊗_ 𝟙 α (suc i)) ≡ 𝟘
 
   -- One data symbol u more: with f = u + r 0, each of the T entries of the remainder takes the next one's place and f times the generator is added.
-  pub record Turned (T : ℕ) (g : ℕ → F) (u : F) (r r′ : ℕ → F) : Type 0 where
+  pub record RegisterStep (T : ℕ) (g : ℕ → F) (u : F) (r r′ : ℕ → F) : Type 0 where
     pub written : (i : ℕ) → i < T → r′ i ≡ r (suc i) ⊕ (u ⊕ r 0) ⊗ g (suc i)
     pub kept : (i : ℕ) → T ≤ i → r′ i ≡ r i
 

@@ -1,6 +1,6 @@
 pub mod Sums
 pub mod Words
-pub mod Sifting
+pub mod ModifiedSyndromes
 pub mod Quotient
 pub mod Product
 pub mod Encoding

@@ -8,7 +8,7 @@ use Rattle.poly.specs.Polynomial.{add}
 use Rattle.field.specs.Element.{mul, inverse, α}
 use Rattle.reedsolomon.specs.Sums.{sum, power, value, position, reversed}
 use Rattle.reedsolomon.specs.Words.{Elements, NonZero, syndrome, count}
-use Rattle.reedsolomon.specs.Sifting.{Left}
+use Rattle.reedsolomon.specs.ModifiedSyndromes.{Left}
 use Rattle.reedsolomon.specs.Encoding.{Generator, Divided}
 use Rattle.reedsolomon.specs.Elimination.{Reduced, Slots, Stopped}
 use Rattle.reedsolomon.specs.Decoding.{Correction}
@@ -59,28 +59,28 @@ module _ (m g : ℕ) where
     pub generator : Generator add (mul m g) 0 1 α T divisor
     pub divided : Divided add (mul m g) 0 1 Element T divisor (symbol d) n (symbol r)
 
-  -- the places of N columns
-  abbrev pub place : ℕ → ℕ → ℕ
-  place N = position (mul m g) 1 α N
+  -- the locators of N columns
+  abbrev pub locatorAt : ℕ → ℕ → ℕ
+  locatorAt N = position (mul m g) 1 α N
 
   -- Σ w_l * X_l ^ (i + 1) over the first n
-  unfoldable pub placeSum : ℕ → (ℕ → ℕ) → (ℕ → ℕ) → ℕ → ℕ
-  placeSum n w X i = sum add 0 n (λ l. mul m g (w l) (power (mul m g) 1 (X l) (suc i)))
+  unfoldable pub locatorSum : ℕ → (ℕ → ℕ) → (ℕ → ℕ) → ℕ → ℕ
+  locatorSum n w X i = sum add 0 n (λ l. mul m g (w l) (power (mul m g) 1 (X l) (suc i)))
 
   -- the first t power sums of k entries at least are added to s
   pub record Summed (k t : ℕ) (w xs s r : List ℕ) : Type 0 where
     pub number : ℕ
     pub enough : k ≤ number
-    pub sums : Written t (λ i. add (symbol s i) (placeSum number (symbol w) (symbol xs) i)) s r
+    pub sums : Written t (λ i. add (symbol s i) (locatorSum number (symbol w) (symbol xs) i)) s r
 
   -- the T syndromes of a word of N columns, and 0 behind them
   pub record HasSyndromes (N T : ℕ) (w s : List ℕ) : Type 0 where
     pub syndromes : (i : ℕ) → i < T → symbol s i ≡ syndrome add (mul m g) 0 1 α N (symbol w) i
     pub ended : (i : ℕ) → T ≤ i → symbol s i ≡ 0
 
-  -- what is left of the first t entries once the marked columns are sifted out
-  pub record Stripped (N t : ℕ) (marks s s′ : List ℕ) : Type 0 where
-    pub left : Left add (mul m g) (place N) (marked marks) N t (symbol s) (symbol s′)
+  -- what is left of the first t entries once the marked columns are taken out
+  pub record HasModifiedSyndromes (N t : ℕ) (marks s s′ : List ℕ) : Type 0 where
+    pub left : Left add (mul m g) (locatorAt N) (marked marks) N t (symbol s) (symbol s′)
     pub inside : Symbols m s′
 
   -- Rows of the elimination: 16 combinations, and then 16 coefficients; n equations for the sequence M. Slot i stands in the entries from i * 32 on.
@@ -107,38 +107,38 @@ module _ (m g : ℕ) where
   unfoldable pub rowValue : List ℕ → ℕ → ℕ → ℕ
   rowValue row d x = value add (mul m g) 0 (suc d) (reversed (suc d) (coefficient row)) x
 
-  -- the marks of the suspects: the erased columns, and those where the value is 0
+  -- the marks of the error locations: the erased columns, and those where the value is 0
   pub record Flagged (N : ℕ) (marks values flags : List ℕ) : Type 0 where
     pub only : (j : ℕ) → j < N → marked flags j ≡ true → (marked marks j ≡ true) ⊎ (symbol values j ≡ 0)
     pub erased : (j : ℕ) → j < N → marked marks j ≡ true → marked flags j ≡ true
     pub zero : (j : ℕ) → j < N → symbol values j ≡ 0 → marked flags j ≡ true
 
-  -- the places of the k marked columns in their order, and 0 behind them
-  pub record PlacesOf (N : ℕ) (flags xs : List ℕ) (k : ℕ) : Type 0 where
+  -- the locators of the k marked columns in their order, and 0 behind them
+  pub record LocatorsOf (N : ℕ) (flags xs : List ℕ) (k : ℕ) : Type 0 where
     pub number : k ≡ count (marked flags) N
-    pub places : (j : ℕ) → j < N → marked flags j ≡ true → symbol xs (count (marked flags) j) ≡ place N j
+    pub locators : (j : ℕ) → j < N → marked flags j ≡ true → symbol xs (count (marked flags) j) ≡ locatorAt N j
     pub ended : (i : ℕ) → k ≤ i → symbol xs i ≡ 0
 
   -- v is w with the entries of ys added at the marked columns in their order
   pub record Added (N : ℕ) (flags ys w v : List ℕ) : Type 0 where
-    pub suspect : (j : ℕ) → j < N → marked flags j ≡ true → symbol v j ≡ add (symbol w j) (symbol ys (count (marked flags) j))
+    pub location : (j : ℕ) → j < N → marked flags j ≡ true → symbol v j ≡ add (symbol w j) (symbol ys (count (marked flags) j))
     pub other : (j : ℕ) → j < N → marked flags j ≡ false → symbol v j ≡ symbol w j
     pub after : (j : ℕ) → N ≤ j → symbol v j ≡ symbol w j
 
-  -- the suspects of a word with the syndromes S, the marked columns erased: these and the roots of a locator
-  pub record Suspected (N T : ℕ) (marks S flags : List ℕ) : Type 0 where
+  -- the error locations of a word with the syndromes S, the marked columns erased: these and the roots of a locator
+  pub record HasErrorLocations (N T : ℕ) (marks S flags : List ℕ) : Type 0 where
     pub rest : ℕ → ℕ
     pub degree : ℕ
     pub locator : ℕ → ℕ
-    pub left : Left add (mul m g) (place N) (marked marks) N T (symbol S) rest
+    pub left : Left add (mul m g) (locatorAt N) (marked marks) N T (symbol S) rest
     pub locator-in : Elements Element (suc degree) locator
     pub locator-not-zero : NonZero 0 (suc degree) locator
     pub locator-short : degree ≤ (T - count (marked marks) N) / 2
     pub locator-meets : (i : ℕ) → i < (T - count (marked marks) N) / 2 → sum add 0 (suc degree) (λ j. mul m g (locator j) (rest (i + j))) ≡ 0
-    pub suspects : (j : ℕ) → j < N → marked flags j ≡ true
-        → (marked marks j ≡ true) ⊎ (value add (mul m g) 0 (suc degree) (reversed (suc degree) locator) (place N j) ≡ 0)
-    pub erased-is-suspect : (j : ℕ) → j < N → marked marks j ≡ true → marked flags j ≡ true
-    pub root-is-suspect : (j : ℕ) → j < N → value add (mul m g) 0 (suc degree) (reversed (suc degree) locator) (place N j) ≡ 0 → marked flags j ≡ true
+    pub locations : (j : ℕ) → j < N → marked flags j ≡ true
+        → (marked marks j ≡ true) ⊎ (value add (mul m g) 0 (suc degree) (reversed (suc degree) locator) (locatorAt N j) ≡ 0)
+    pub erased-is-location : (j : ℕ) → j < N → marked marks j ≡ true → marked flags j ≡ true
+    pub root-is-location : (j : ℕ) → j < N → value add (mul m g) 0 (suc degree) (reversed (suc degree) locator) (locatorAt N j) ≡ 0 → marked flags j ≡ true
 
   -- the corrected word v of w
   pub record IsCorrection (N T : ℕ) (marks w v : List ℕ) : Type 0 where
@@ -146,8 +146,8 @@ module _ (m g : ℕ) where
     pub rest : ℕ → ℕ
     pub size : ℕ
     pub locator : ℕ → ℕ
-    pub suspects : ℕ → Bool
+    pub locations : ℕ → Bool
     pub number : ℕ
     pub polynomial : ℕ → ℕ
-    pub correction : Correction Element add (mul m g) 0 1 (inverse m g) α N T (marked marks) (symbol w) syndromes rest size locator suspects number polynomial (symbol v)
+    pub correction : Correction Element add (mul m g) 0 1 (inverse m g) α N T (marked marks) (symbol w) syndromes rest size locator locations number polynomial (symbol v)
     pub padded : Padded m N v

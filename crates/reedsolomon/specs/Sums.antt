@@ -17,11 +17,11 @@ unfoldable pub value : {F : Type 0} → (F → F → F) → (F → F → F) → 
 value plus times none zero w b = none
 value plus times none (suc n) w b = plus (times (value plus times none n w b) b) (w n)
 
--- the power sum with index i of n weights c at the places X: c 0 * X 0 ^ i + .. + c (n - 1) * X (n - 1) ^ i
+-- the power sum with index i of n weights c at the locators X: c 0 * X 0 ^ i + .. + c (n - 1) * X (n - 1) ^ i
 abbrev pub powerSum : {F : Type 0} → (F → F → F) → (F → F → F) → F → F → ℕ → (ℕ → F) → (ℕ → F) → ℕ → F
 powerSum plus times none one n c X i = sum plus none n (λ j. times (c j) (power times one (X j) i))
 
--- the place of column j of n: a ^ (n - 1 - j)
+-- the locator of column j of n: a ^ (n - 1 - j)
 unfoldable pub position : {F : Type 0} → (F → F → F) → F → F → ℕ → ℕ → F
 position times one a n j = power times one a (n - suc j)
 

@@ -28,7 +28,7 @@ Elements In n w = (j : ℕ) → j < n → In (w j)
 abbrev pub NonZero : {F : Type 0} → F → ℕ → (ℕ → F) → Type 0
 NonZero none k p = ((j : ℕ) → j < k → p j ≡ none) → ⊥
 
--- the first n places are distinct
+-- the first n locators are distinct
 abbrev pub Distinct : {F : Type 0} → ℕ → (ℕ → F) → Type 0
 Distinct n X = (i j : ℕ) → i < n → j < n → X i ≡ X j → i ≡ j
 

@@ -90,9 +90,9 @@ module _ (T : ℕ) (g : List ℕ) (h : HasMultiples T g) where
       subst (λ (x : ℕ). DividedTo d x n′) (sym (add-one k))
       (division-of-one-symbol-more field64 T coefficient (h .generator .generator .monic) (symbol d) (symbolIn n) (symbolIn n′) k hd v
       (record {
-        written = λ i l. ⊎-elim (turned i) (λ u. absurd (omega arith)) (lt-or-le i 30);
+        written = λ i l. ⊎-elim (stepped i) (λ u. absurd (omega arith)) (lt-or-le i 30);
         kept = λ i l. ⊎-elim
-            (λ u. turned i u ∙ ap₂ (λ (x y : ℕ). add x (mul 6 67 f y)) (v .ended (suc i) (omega arith)) (h .generator .ended (suc i) (omega arith))
+            (λ u. stepped i u ∙ ap₂ (λ (x y : ℕ). add x (mul 6 67 f y)) (v .ended (suc i) (omega arith)) (h .generator .ended (suc i) (omega arith))
             ∙ ap (add 0) (mul-zero field64 f) ∙ add-zero-l 0)
             (ends i) (lt-or-le i 30) ∙ sym (v .ended i l);
       }))
@@ -103,8 +103,8 @@ module _ (T : ℕ) (g : List ℕ) (h : HasMultiples T g) where
       small : f < 2 ^ 6
       small = add-lt 6 _ _ hd (v .inside 0)
 
-      turned : (i : ℕ) → i < 30 → symbolIn n′ i ≡ add (symbolIn n (suc i)) (mul 6 67 f (coefficient (suc i)))
-      turned i l =
+      stepped : (i : ℕ) → i < 30 → symbolIn n′ i ≡ add (symbolIn n (suc i)) (mul 6 67 f (coefficient (suc i)))
+      stepped i l =
           ap (λ (x : ℕ). symbolIn x i) (e ∙ ap (λ (x : ℕ). add (n / 2 ^ 6) (multipleOf g (add (symbol d k) x))) (sym (first-symbol n)))
           ∙ symbol-of-sum i (n / 2 ^ 6) (multipleOf g f) ∙ ap₂ add (symbol-behind n i) (product-symbol f i small l)
 

@@ -149,7 +149,7 @@ fn shifted(w: Words) -> Words
 }
 
 // One data symbol u more goes into the remainder w by the multiples g of the generator.
-fn turn(w: Words, g: &[u64], u: u8) -> Words
+fn register_step(w: Words, g: &[u64], u: u8) -> Words
     requires { ⌜ Full w × (18 ≤ length (now g)) × SmallWords (now g) ⌝ }
     ensures { λ r. ⌜ (numberOf r ≡ add (numberOf w / 2 ^ 6) (multipleOf (now (g .entry)) (add u (numberOf w % 2 ^ 6)))) × Full r ⌝ }
 {
@@ -191,7 +191,7 @@ pub fn remainder(data: &[u8], t: usize) -> [u8; 33]
     };
     let mut k = 0;
     while k < data.len() {
-        w = turn(w, &g, data[k]);
+        w = register_step(w, &g, data[k]);
         k += 1;
     }
     symbols(w, t)

@@ -1,4 +1,4 @@
-// The syndromes as power sums: sixteen columns at a time, each symbol times its place once more for each syndrome.
+// The syndromes as power sums: sixteen columns at a time, each symbol times its locator once more for each syndrome.
 use crate::lists;
 ghost use mathlib.Core.Path.{_≡_};
 ghost use Prim.Native.Nat.{ℕ, _≤_};
@@ -8,9 +8,9 @@ ghost use Rattle.field.specs.Element.{mul};
 ghost use Rattle.reedsolomon.specs.Sums.{sum};
 ghost use Rattle.reedsolomon.specs.Words.{Elements};
 ghost use Rattle.reedsolomon.specs.Row.{symbol, Symbols};
-ghost use Rattle.reedsolomon.specs.Steps.{Element, Entries, Written, Padded, place, placeSum, Summed, HasSyndromes};
+ghost use Rattle.reedsolomon.specs.Steps.{Element, Entries, Written, Padded, locatorAt, locatorSum, Summed, HasSyndromes};
 
-// 01: "The powers α^0 to α^62 stand in a constant table": as the places of the 63 columns, α^62 first, and then 0, so that there are four blocks of 16.
+// 01: "The powers α^0 to α^62 stand in a constant table": as the locators of the 63 columns, α^62 first, and then 0, so that there are four blocks of 16.
 const PLACES: [u8; 64] = [
     33,
     49,
@@ -78,14 +78,14 @@ const PLACES: [u8; 64] = [
     0,
 ];
 
-// The places of the columns.
-pub fn places() -> [u8; 64]
-    ensures { λ r. ⌜ Entries 63 (place 6 67 63) r ⌝ }
+// The locators of the columns.
+pub fn locators() -> [u8; 64]
+    ensures { λ r. ⌜ Entries 63 (locatorAt 6 67 63) r ⌝ }
 {
     PLACES
 }
 
-// Each of sixteen symbols times its place.
+// Each of sixteen symbols times its locator.
 fn powered(c: &mut [u8], xs: &[u8])
     requires { ⌜ (16 ≤ length (now c)) × (16 ≤ length (now xs)) ⌝ }
     ensures { λ r. ⌜ Entries 16 (λ (i : ℕ). mul 6 67 (symbol (now (xs .entry)) i) (symbol (now (c .entry)) i)) (now (c .exit)) ⌝ }
@@ -107,10 +107,10 @@ fn total(c: &[u8]) -> u8
     a
 }
 
-// The first t power sums of sixteen symbols at their places are added to s.
+// The first t power sums of sixteen symbols at their locators are added to s.
 fn add_sums(w: [u8; 16], xs: [u8; 16], t: usize, s: &mut [u8])
     requires { ⌜ (t ≤ length (now s)) × Elements (Element 6 67) 16 (symbol w) ⌝ }
-    ensures { λ r. ⌜ Written t (λ (i : ℕ). add (symbol (now (s .entry)) i) (placeSum 6 67 16 (symbol w) (symbol xs) i)) (now (s .entry)) (now (s .exit)) ⌝ }
+    ensures { λ r. ⌜ Written t (λ (i : ℕ). add (symbol (now (s .entry)) i) (locatorSum 6 67 16 (symbol w) (symbol xs) i)) (now (s .entry)) (now (s .exit)) ⌝ }
 {
     let mut c = w;
     let mut i = 0;
@@ -121,7 +121,7 @@ fn add_sums(w: [u8; 16], xs: [u8; 16], t: usize, s: &mut [u8])
     }
 }
 
-// The first t power sums of k symbols at their places are added to s.
+// The first t power sums of k symbols at their locators are added to s.
 pub fn summed(s: [u8; 33], w: &[u8], xs: &[u8], k: usize, t: usize) -> [u8; 33]
     requires { ⌜ (k ≤ 64) × (t ≤ 33) × (64 ≤ length (now w)) × (64 ≤ length (now xs)) × Symbols 6 (now w) ⌝ }
     ensures { λ r. ⌜ Summed 6 67 k t (now (w .entry)) (now (xs .entry)) s r ⌝ }
@@ -142,7 +142,7 @@ pub fn syndromes(w: &[u8], t: usize) -> [u8; 33]
     requires { ⌜ (64 ≤ length (now w)) × (t ≤ 33) × Padded 6 63 (now w) ⌝ }
     ensures { λ r. ⌜ HasSyndromes 6 67 63 t (now (w .entry)) r ⌝ }
 {
-    let all = places();
+    let all = locators();
     let s = [0u8; 33];
     summed(s, w, &all, 64, t)
 }

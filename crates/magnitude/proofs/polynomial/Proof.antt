@@ -1,4 +1,4 @@
--- `magnitude::polynomial` meets its contract: one place a turn of the loop. Assumes nothing.
+-- `magnitude::polynomial` meets its contract: one locator a turn of the loop. Assumes nothing.
 use mathlib.Core.Path.{_≡_, refl, _∙_}
 use mathlib.Core.Bool.{true}
 use Prim.Native.Nat.{_-_, _≤_}
@@ -10,7 +10,7 @@ use Rattle.field.proofs.Short.{field64}
 use Rattle.reedsolomon.specs.Product.{ProductPolynomial}
 use Rattle.reedsolomon.specs.Row.{symbol}
 use Rattle.reedsolomon.specs.Steps.{Element}
-use Rattle.reedsolomon.proofs.Stripping.{product-begins, product-goes-on}
+use Rattle.reedsolomon.proofs.ErasedColumns.{product-begins, product-goes-on}
 use native.Mathlib.Omega.{arith}
 use borrow.Author.Needs.{needs}
 use Rattle.magnitude.proofs.polynomial.Statement.{statement}
@@ -28,14 +28,14 @@ array-write-g c = search needs
 loop-holds : tie.Need-loop-holds Inv-loop μ-loop
 loop-holds c = (search needs, search needs, product-begins 6 67 field64 (c .before .args .xs .now) 33 31 (lit< tt))
 
-slice-aggregate-sift : tie.Need-slice-aggregate-sift Inv-loop μ-loop
-slice-aggregate-sift c = search needs
+slice-aggregate-modify : tie.Need-slice-aggregate-modify Inv-loop μ-loop
+slice-aggregate-modify c = search needs
 
-shared-slice-read-sift : tie.Need-shared-slice-read-sift Inv-loop μ-loop
-shared-slice-read-sift c = search needs
+shared-slice-read-modify : tie.Need-shared-slice-read-modify Inv-loop μ-loop
+shared-slice-read-modify c = search needs
 
-sift-requires : tie.Need-sift-requires Inv-loop μ-loop
-sift-requires c κs = search needs
+modify-requires : tie.Need-modify-requires Inv-loop μ-loop
+modify-requires c κs = search needs
 
 add-i : tie.Need-add-i Inv-loop μ-loop
 add-i c = search needs
@@ -47,7 +47,7 @@ loop-again : tie.Need-loop-again Inv-loop μ-loop
 loop-again c =
     let a = c .before .before .before .before .before .before .before .args in
     let l = c .before .before .before .before .before .loop in
-    let s = c .before .sift in (
+    let s = c .before .modify in (
       omega arith,
       s .kept .0 ∙ l .inv .1,
       product-goes-on 6 67 field64 (a .xs .now) 31 (l .i) _ (l .g) (s .last .0) (omega arith) refl (l .inv .2) (s .ensures),
@@ -64,9 +64,9 @@ polynomial-spec =
     μ-loop
     array-write-g
     loop-holds
-    slice-aggregate-sift
-    shared-slice-read-sift
-    sift-requires
+    slice-aggregate-modify
+    shared-slice-read-modify
+    modify-requires
     add-i
     loop-less
     loop-again

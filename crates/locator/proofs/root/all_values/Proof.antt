@@ -20,8 +20,8 @@ Inv-loop row d all r₀ b₀ r b = (b ≤ 4) × (length r ≡ 64) × Entries (b 
 abbrev μ-loop : tie.MeasureT-loop
 μ-loop row d all r₀ b₀ r b = 4 - b
 
-places-requires : tie.Need-places-requires Inv-loop μ-loop
-places-requires c κs = search needs
+locators-requires : tie.Need-locators-requires Inv-loop μ-loop
+locators-requires c κs = search needs
 
 loop-holds : tie.Need-loop-holds Inv-loop μ-loop
 loop-holds c = (search needs, search needs, λ i l. absurd (native.Mathlib.Nat.not-suc-le-zero l))
@@ -57,7 +57,7 @@ loop-again : tie.Need-loop-again Inv-loop μ-loop
 loop-again c =
     let a = c .before .before .before .before .before .before .before .before .before .before .before .args in
     let l = c .before .before .before .before .before .before .before .before .loop in
-    let all = c .before .before .before .before .before .before .before .before .before .places .result in
+    let all = c .before .before .before .before .before .before .before .before .before .locators .result in
     let p = c .before .put in (
       omega arith,
       p .kept .1 .1 .1 .0 ∙ l .inv .1,
@@ -68,7 +68,7 @@ loop-again c =
 returns : tie.Need-returns Inv-loop μ-loop
 returns c =
     let e : c .before .loop .b ≡ 4 = omega arith in
-    λ j l. c .before .loop .inv .2 j (omega arith) ∙ ap (rowValue 6 67 (c .before .before .before .before .args .row .now) (c .before .before .before .before .args .d)) (c .before .before .places .ensures j l)
+    λ j l. c .before .loop .inv .2 j (omega arith) ∙ ap (rowValue 6 67 (c .before .before .before .before .args .row .now) (c .before .before .before .before .args .d)) (c .before .before .locators .ensures j l)
 
 pub all-values-spec : {M : Type 1} → statement M
 all-values-spec =
@@ -76,7 +76,7 @@ all-values-spec =
     (tie.spec
     Inv-loop
     μ-loop
-    places-requires
+    locators-requires
     loop-holds
     slice-aggregate-block
     block-requires

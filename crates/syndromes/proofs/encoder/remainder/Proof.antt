@@ -25,14 +25,14 @@ loop-holds : tie.Need-loop-holds Inv-loop μ-loop
 unfolding joined
 loop-holds c = (omega arith, record { low = pow-pos 60; middle = pow-pos 60; high = pow-pos 60 }, λ h. no-data _ _ h (c .before .before .args .«data» .now))
 
-slice-aggregate-turn : tie.Need-slice-aggregate-turn Inv-loop μ-loop
-slice-aggregate-turn c = search needs
+slice-aggregate-register-step : tie.Need-slice-aggregate-register-step Inv-loop μ-loop
+slice-aggregate-register-step c = search needs
 
-shared-slice-read-turn : tie.Need-shared-slice-read-turn Inv-loop μ-loop
-shared-slice-read-turn c = search needs
+shared-slice-read-register-step : tie.Need-shared-slice-read-register-step Inv-loop μ-loop
+shared-slice-read-register-step c = search needs
 
-turn-requires : tie.Need-turn-requires Inv-loop μ-loop
-turn-requires c κs = (c .before .before .before .loop .inv .1, search needs, c .before .before .before .before .generator .ensures .small)
+register-step-requires : tie.Need-register-step-requires Inv-loop μ-loop
+register-step-requires c κs = (c .before .before .before .loop .inv .1, search needs, c .before .before .before .before .generator .ensures .small)
 
 add-k : tie.Need-add-k Inv-loop μ-loop
 add-k c = search needs
@@ -44,12 +44,12 @@ loop-again : tie.Need-loop-again Inv-loop μ-loop
 loop-again c =
     let s = c .before .before .before .before .before .before .before in
     let l = c .before .before .before .before .loop in
-    let full = c .turn .ensures .1 in
-    let w = c .turn .result in (
+    let full = c .register-step .ensures .1 in
+    let w = c .register-step .result in (
       omega arith,
       full,
       λ h. one-symbol-more _ _ h (row-roots-bounded _ (s .pre .0)) (s .args .«data» .now) (l .k) (numberOf (l .w)) (numberOf w) (s .pre .1 (l .k))
-          (λ i u. no-symbol-more (w .low) (w .middle) (w .high) i (full .low) (full .middle) (full .high) u) (l .inv .2 h) (c .turn .ensures .0),
+          (λ i u. no-symbol-more (w .low) (w .middle) (w .high) i (full .low) (full .middle) (full .high) u) (l .inv .2 h) (c .register-step .ensures .0),
     )
 
 symbols-requires : tie.Need-symbols-requires Inv-loop μ-loop
@@ -71,9 +71,9 @@ remainder-spec =
     μ-loop
     generator-requires
     loop-holds
-    slice-aggregate-turn
-    shared-slice-read-turn
-    turn-requires
+    slice-aggregate-register-step
+    shared-slice-read-register-step
+    register-step-requires
     add-k
     loop-less
     loop-again

@@ -7,7 +7,7 @@ use lib.ListN.{length, length-set}
 use Rattle.poly.specs.Polynomial.{add}
 use Rattle.field.proofs.Short.{field64}
 use Rattle.reedsolomon.specs.Row.{symbol}
-use Rattle.reedsolomon.specs.Steps.{Entries, Written, placeSum}
+use Rattle.reedsolomon.specs.Steps.{Entries, Written, locatorSum}
 use Rattle.reedsolomon.proofs.Fill.{nothing-written, one-more-written}
 use Rattle.reedsolomon.proofs.Lanes.{weight, weights-begin, weights-go-on, sum-of-weights}
 use native.Mathlib.Omega.{arith}
@@ -18,7 +18,7 @@ use Rattle.syndromes.proofs.syndrome.add_sums.Tie as tie
 abbrev Inv-loop : tie.InvT-loop
 Inv-loop t s₀ xs c₀ i₀ s c i =
     (i ≤ t) × (length s ≡ length s₀) × (length c ≡ 16) × Entries 16 (weight 6 67 field64 c₀ xs i) c
-    × Written i (λ i. add (symbol s₀ i) (placeSum 6 67 16 (symbol c₀) (symbol xs) i)) s₀ s
+    × Written i (λ i. add (symbol s₀ i) (locatorSum 6 67 16 (symbol c₀) (symbol xs) i)) s₀ s
 
 abbrev μ-loop : tie.MeasureT-loop
 μ-loop t s₀ xs c₀ i₀ s c i = t - i

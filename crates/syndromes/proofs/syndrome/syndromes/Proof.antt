@@ -7,8 +7,8 @@ use borrow.Author.Needs.{needs}
 use Rattle.syndromes.proofs.syndrome.syndromes.Statement.{statement}
 use Rattle.syndromes.proofs.syndrome.syndromes.Tie as tie
 
-places-requires : tie.Need-places-requires
-places-requires c κs = search needs
+locators-requires : tie.Need-locators-requires
+locators-requires c κs = search needs
 
 slice-aggregate-summed : tie.Need-slice-aggregate-summed
 slice-aggregate-summed c = search needs
@@ -21,8 +21,8 @@ summed-requires c κs =
 returns : tie.Need-returns
 returns c =
     let s = c .before .before .before .before in
-    syndromes-by-sums 6 67 field64 63 64 (s .args .t) 33 (s .args .w .now) (c .before .before .places .result) (c .summed .result) (lit≤ tt) (s .pre .2) (c .before .before .places .ensures) (c .summed .ensures)
+    syndromes-by-sums 6 67 field64 63 64 (s .args .t) 33 (s .args .w .now) (c .before .before .locators .result) (c .summed .result) (lit≤ tt) (s .pre .2) (c .before .before .locators .ensures) (c .summed .ensures)
 
 pub syndromes-spec : {M : Type 1} → statement M
 syndromes-spec =
-    tie.close (tie.spec places-requires slice-aggregate-summed summed-requires returns)
+    tie.close (tie.spec locators-requires slice-aggregate-summed summed-requires returns)

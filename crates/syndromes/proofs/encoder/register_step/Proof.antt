@@ -1,4 +1,4 @@
--- `syndromes::encoder::turn` meets its contract: the shifted words, and the multiples added word by word. Assumes nothing.
+-- `syndromes::encoder::register_step` meets its contract: the shifted words, and the multiples added word by word. Assumes nothing.
 use mathlib.Core.Path.{_≡_, sym, ap, _∙_, subst}
 use Prim.Native.Nat.{ℕ, _/_, _%_, _^_, _<_}
 use lib.Bits.{bitXor, xor-lt}
@@ -7,8 +7,8 @@ use Rattle.syndromes.specs.Packed.{multipleAt, multipleOf, numberOf}
 use Rattle.syndromes.proofs.Packed.{joined-first}
 use Rattle.syndromes.proofs.Multiples.{multiple-lt, words-with-multiple}
 use borrow.Author.Needs.{needs}
-use Rattle.syndromes.proofs.encoder.turn.Statement.{statement}
-use Rattle.syndromes.proofs.encoder.turn.Tie as tie
+use Rattle.syndromes.proofs.encoder.register_step.Statement.{statement}
+use Rattle.syndromes.proofs.encoder.register_step.Tie as tie
 
 shifted-requires : tie.Need-shifted-requires
 shifted-requires c κs = search needs
@@ -44,7 +44,7 @@ returns c =
       },
     )
 
-pub turn-spec : {M : Type 1} → statement M
-turn-spec =
+pub register-step-spec : {M : Type 1} → statement M
+register-step-spec =
     tie.close
     (tie.spec shifted-requires multiple-requires multiple-requires-2 multiple-requires-3 returns)

@@ -10,7 +10,7 @@ use lib.ListN.{length, getD}
 use Rattle.poly.specs.Polynomial.{add, scale, product, productIn, reduced, remainder, remainderIn}
 use Rattle.field.specs.Element.{mul, α}
 use Rattle.reedsolomon.specs.Sums.{power, position}
-use Rattle.reedsolomon.specs.Steps.{place}
+use Rattle.reedsolomon.specs.Steps.{locatorAt}
 
 -- what stands before ys
 abbrev before : (ℕ → ℕ) → List ℕ → ℕ
@@ -45,6 +45,6 @@ module _ (f P : ℕ → ℕ) (start : P 0 ≡ 1) (step : (k : ℕ) → P (suc k)
 abbrev pub table : List ℕ
 table = 33 ∷ 49 ∷ 57 ∷ 61 ∷ 63 ∷ 62 ∷ 31 ∷ 46 ∷ 23 ∷ 42 ∷ 21 ∷ 43 ∷ 52 ∷ 26 ∷ 13 ∷ 39 ∷ 50 ∷ 25 ∷ 45 ∷ 55 ∷ 58 ∷ 29 ∷ 47 ∷ 54 ∷ 27 ∷ 44 ∷ 22 ∷ 11 ∷ 36 ∷ 18 ∷ 9 ∷ 37 ∷ 51 ∷ 56 ∷ 28 ∷ 14 ∷ 7 ∷ 34 ∷ 17 ∷ 41 ∷ 53 ∷ 59 ∷ 60 ∷ 30 ∷ 15 ∷ 38 ∷ 19 ∷ 40 ∷ 20 ∷ 10 ∷ 5 ∷ 35 ∷ 48 ∷ 24 ∷ 12 ∷ 6 ∷ 3 ∷ 32 ∷ 16 ∷ 8 ∷ 4 ∷ 2 ∷ 1 ∷ []
 
-pub places-of-63 : (j : ℕ) → j < 63 → getD table j 0 ≡ place 6 67 63 j
+pub locators-of-63 : (j : ℕ) → j < 63 → getD table j 0 ≡ locatorAt 6 67 63 j
 unfolding position power add scale mul product productIn reduced remainder remainderIn
-places-of-63 = entry-at (mul 6 67 α) (power (mul 6 67) 1 α) refl (λ k. refl) table tt
+locators-of-63 = entry-at (mul 6 67 α) (power (mul 6 67) 1 α) refl (λ k. refl) table tt

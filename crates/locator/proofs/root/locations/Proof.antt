@@ -1,4 +1,4 @@
--- `locator::root::suspects` meets its contract: one column a turn of the loop. Assumes nothing.
+-- `locator::root::locations` meets its contract: one column a turn of the loop. Assumes nothing.
 use mathlib.Core.Path.{_≡_}
 use Prim.Native.Nat.{_-_, _≤_}
 use lib.ListN.{length, length-set}
@@ -6,8 +6,8 @@ use Rattle.reedsolomon.specs.Steps.{Flagged}
 use Rattle.reedsolomon.proofs.Marks.{none-flagged, one-more-flagged}
 use native.Mathlib.Omega.{arith}
 use borrow.Author.Needs.{needs}
-use Rattle.locator.proofs.root.suspects.Statement.{statement}
-use Rattle.locator.proofs.root.suspects.Tie as tie
+use Rattle.locator.proofs.root.locations.Statement.{statement}
+use Rattle.locator.proofs.root.locations.Tie as tie
 
 abbrev Inv-loop : tie.InvT-loop
 Inv-loop marks values flags₀ j₀ flags j = (j ≤ 63) × (length flags ≡ 64) × Flagged 6 67 j marks values flags
@@ -43,8 +43,8 @@ loop-again c =
 returns : tie.Need-returns Inv-loop μ-loop
 returns c = let e : c .before .loop .j ≡ 63 = omega arith in rw e at (c .before .loop .inv .2)
 
-pub suspects-spec : {M : Type 1} → statement M
-suspects-spec =
+pub locations-spec : {M : Type 1} → statement M
+locations-spec =
     tie.close
     (tie.spec
     Inv-loop

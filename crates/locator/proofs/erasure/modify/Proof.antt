@@ -1,4 +1,4 @@
--- `locator::erasure::sift` meets its contract: one entry a turn of the loop. Assumes nothing.
+-- `locator::erasure::modify` meets its contract: one entry a turn of the loop. Assumes nothing.
 use mathlib.Core.Path.{_≡_, ap, ap₂, _∙_}
 use mathlib.Core.List.{List}
 use Prim.Native.Nat.{ℕ, suc, _+_, _-_, _≤_}
@@ -13,8 +13,8 @@ use Rattle.reedsolomon.specs.Steps.{Written}
 use Rattle.reedsolomon.proofs.Fill.{nothing-written, one-more-written}
 use native.Mathlib.Omega.{arith}
 use borrow.Author.Needs.{needs}
-use Rattle.locator.proofs.erasure.sift.Statement.{statement}
-use Rattle.locator.proofs.erasure.sift.Tie as tie
+use Rattle.locator.proofs.erasure.modify.Statement.{statement}
+use Rattle.locator.proofs.erasure.modify.Tie as tie
 
 abbrev goal : ℕ → List ℕ → ℕ → ℕ
 goal y s i = add (symbol s (suc i)) (mul 6 67 y (symbol s i))
@@ -66,8 +66,8 @@ same-length c = search needs
 returns : tie.Need-returns Inv-loop μ-loop
 returns c = let e : c .before .loop .i ≡ 32 = omega arith in rw e at (c .before .loop .inv .2)
 
-pub sift-spec : {M : Type 1} → statement M
-sift-spec =
+pub modify-spec : {M : Type 1} → statement M
+modify-spec =
     tie.close
     (tie.spec
     Inv-loop

@@ -1,4 +1,4 @@
--- `magnitude::amounts` meets its contract: the three recurrences, one coefficient a turn of the loop. Assumes nothing.
+-- `magnitude::magnitudes` meets its contract: the three recurrences, one coefficient a turn of the loop. Assumes nothing.
 use mathlib.Core.Path.{_≡_, refl, ap, _∙_}
 use mathlib.Core.List.{List}
 use Prim.Native.Nat.{ℕ, suc, _-_, _+_, _≤_}
@@ -9,11 +9,11 @@ use Rattle.field.proofs.Short.{field64}
 use Rattle.reedsolomon.specs.Quotient.{denominator, numerator}
 use Rattle.reedsolomon.specs.Row.{symbol}
 use Rattle.reedsolomon.specs.Steps.{Entries}
-use Rattle.reedsolomon.proofs.Lanes.{valueAt, values-begin, values-go-on, denominators-begin, denominators-go-on, numerators-begin, numerators-go-on, amounts-end}
+use Rattle.reedsolomon.proofs.Lanes.{valueAt, values-begin, values-go-on, denominators-begin, denominators-go-on, numerators-begin, numerators-go-on, magnitudes-end}
 use native.Mathlib.Omega.{arith}
 use borrow.Author.Needs.{needs}
-use Rattle.magnitude.proofs.amounts.Statement.{statement}
-use Rattle.magnitude.proofs.amounts.Tie as tie
+use Rattle.magnitude.proofs.magnitudes.Statement.{statement}
+use Rattle.magnitude.proofs.magnitudes.Tie as tie
 
 -- the coefficients of the polynomial, the highest first
 abbrev from : List ℕ → ℕ → ℕ → ℕ
@@ -127,11 +127,11 @@ returns c =
     let x = c .before .before .before .before .before .before .before .args in
     let l = c .before .before .before .before .loop in
     let e : l .j ≡ x .k = omega arith in
-    amounts-end 6 67 field64 (x .k) (symbol (x .s .now)) (from (x .g .now) (x .k)) (x .t4) (l .a) (l .d) (c .before .before .products .result) (c .before .inverses .result) (c .products2 .result)
+    magnitudes-end 6 67 field64 (x .k) (symbol (x .s .now)) (from (x .g .now) (x .k)) (x .t4) (l .a) (l .d) (c .before .before .products .result) (c .before .inverses .result) (c .products2 .result)
     (rw e at (l .inv .6)) (rw e at (l .inv .5)) (c .before .before .products .ensures) (c .before .inverses .ensures) (c .products2 .ensures)
 
-pub amounts-spec : {M : Type 1} → statement M
-amounts-spec =
+pub magnitudes-spec : {M : Type 1} → statement M
+magnitudes-spec =
     tie.close
     (tie.spec
     Inv-loop

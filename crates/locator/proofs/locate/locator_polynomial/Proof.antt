@@ -1,4 +1,4 @@
--- `locator::locate::locator` meets its contract: one row a turn of the loop, and each that does not finish uses one slot more. Assumes nothing.
+-- `locator::locate::locator_polynomial` meets its contract: one row a turn of the loop, and each that does not finish uses one slot more. Assumes nothing.
 use mathlib.Core.Path.{_≡_, ap, _∙_, subst}
 use Prim.Native.Nat.{ℕ, _-_, _+_, _≤_, _<_}
 use native.Mathlib.Decide.{ℕ-discrete}
@@ -11,8 +11,8 @@ use Rattle.reedsolomon.specs.Steps.{RowAt, SlotsAt}
 use Rattle.reedsolomon.proofs.Rows.{slots-begin-at, none-used, row-is-kept-at, one-more-used, row-finishes}
 use native.Mathlib.Omega.{arith}
 use borrow.Author.Needs.{needs}
-use Rattle.locator.proofs.locate.locator.Statement.{statement}
-use Rattle.locator.proofs.locate.locator.Tie as tie
+use Rattle.locator.proofs.locate.locator_polynomial.Statement.{statement}
+use Rattle.locator.proofs.locate.locator_polynomial.Tie as tie
 
 abbrev Inv-loop : tie.InvT-loop
 Inv-loop m n slots₀ qs₀ b₀ slots qs b =
@@ -120,8 +120,8 @@ returns-2 c =
     let e : t .result .stop ≡ s .args .n = row-finishes 6 67 field64 (s .args .n) (s .args .m .now) (l .qs) (t .result .row) (l .b) (t .result .stop) full (t .ensures) in
     (l .inv .0, subst (RowAt 6 67 (s .args .n) (s .args .m .now) (t .result .row) (l .b)) e (t .ensures .row))
 
-pub locator-spec : {M : Type 1} → statement M
-locator-spec =
+pub locator-polynomial-spec : {M : Type 1} → statement M
+locator-polynomial-spec =
     tie.close
     (tie.spec
     Inv-loop
