@@ -1,3 +1,4 @@
 pub mod FirstAbove
 pub mod AllInRange
 pub mod Filled
+pub mod Answered

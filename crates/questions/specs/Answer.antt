@@ -1,4 +1,5 @@
 -- What the cases of an answer are in 01's words: a number, 0 where nothing is refused, a place and a value. Assumes nothing.
+use mathlib.Core.Path.{_≡_}
 use Prim.Native.Nat.{ℕ}
 use Rattle.questions.specs.declared.Answer.{Answer}
 use Rattle.questions.specs.declared.Answer.the-variants.{Value, Refused}
@@ -14,3 +15,10 @@ place (Refused n p) = p
 abbrev pub value : Answer → ℕ
 value (Value v) = v
 value (Refused n p) = 0
+
+-- a call that is due to answer `due` answered r: the case of the enum, its number, place and value
+pub record Answered (due r : Answer) : Type 0 where
+  pub answer : r ≡ due
+  pub number : number r ≡ number due
+  pub place : place r ≡ place due
+  pub value : value r ≡ value due

@@ -18,7 +18,10 @@ abbrev pub after : Outcome → List ℕ → List ℕ → List ℕ
 after Done made old = made
 after (Refused n p) made old = old
 
--- a call that is due to answer `due`, and to make `made` where it does not refuse, answered r and left `new` in the place of `old`
+-- A call that is due to answer `due`, and to make `made` where it does not refuse, answered r and left `new` in the place of `old`: the case of the enum, its number and place,
+-- and the bytes.
 pub record Filled (due : Outcome) (made old : List ℕ) (r : Outcome) (new : List ℕ) : Type 0 where
   pub answer : r ≡ due
+  pub number : number r ≡ number due
+  pub place : place r ≡ place due
   pub bytes : new ≡ after due made old
