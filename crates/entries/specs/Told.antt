@@ -1,4 +1,4 @@
--- Answers as numbers. Assumes nothing.
+-- For the code's contracts: the calls' answers as the numbers that C gets. Assumes nothing.
 use Rattle.questions.specs.Answer.{number, place, value}
 use Rattle.questions.specs.declared.Answer.{Answer}
 use Rattle.store_searches.specs.declared.SearchAnswer.{SearchAnswer}

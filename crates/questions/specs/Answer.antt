@@ -1,4 +1,5 @@
--- What the cases of an answer are in 01's words: a number, 0 where nothing is refused, a place and a value. Assumes nothing.
+-- 01: "a definition gives this paper's number and values for each of its cases, and the promises use that definition": of an answer with one value. Number 0: nothing is refused.
+-- Assumes nothing.
 use mathlib.Core.Path.{_≡_}
 use Prim.Native.Nat.{ℕ}
 use Rattle.questions.specs.declared.Answer.{Answer}

@@ -1,4 +1,4 @@
--- What the cases of an outcome are in 01's words, and what a call that fills a lent buffer promises. Assumes nothing.
+-- 01: the number and place of each case of an outcome, and what a call that fills a lent buffer promises. Assumes nothing.
 use Prim.Native.Nat.{ℕ}
 use mathlib.Core.List.{List}
 use mathlib.Core.Path.{_≡_}

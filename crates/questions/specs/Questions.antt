@@ -1,4 +1,4 @@
--- 01, "Questions put to every call": in their order, the first no gives its number and a place. Assumes nothing.
+-- 01: "Questions put to every call": in their order, the first no gives its number and a place. Assumes nothing.
 use mathlib.Core.Bool.{Bool, true, false, cond}
 use mathlib.Core.List.{List, [], _∷_}
 use Prim.Native.Nat.{ℕ, suc}
