@@ -18,7 +18,8 @@ use Rattle.page.specs.declared.PageOutcome.{PageOutcome}
 use Rattle.questions.specs.Questions.{ask, firstAbove}
 use Rattle.questions.specs.Outcome.{number, place}
 use Rattle.store_pages.specs.Pages.{encodePageAnswer, refusedPage, askPage, decodedPage}
-use Rattle.store_dumps.specs.Dumps.{askFixed, askCheck, readAnswer}
+use Rattle.store_dumps.specs.Dumps.{askFixed, askCheck, askBlock, readAnswer}
+use Rattle.store_dumps.proofs.BlockByBlock.{each-keeps}
 use Rattle.questions.specs.declared.Outcome.{Outcome}
 use Rattle.station.specs.Returned.{returned}
 
@@ -55,7 +56,7 @@ encode-small bytes out =
     (either SmallOutcome (eqb (length out) 252) _ _ (omega arith, omega arith) (omega arith, omega arith))
 
 -- questions 7 and 8 of a block
-block-small : (dump : List ℕ) (b : ℕ) (next : Outcome) → b ≤ 3 → SmallOutcome next → SmallOutcome (askFixed dump b (askCheck dump b next))
+block-small : (dump : List ℕ) (b : ℕ) (next : Outcome) → b ≤ 3 → SmallOutcome next → SmallOutcome (askBlock dump b next)
 unfolding askFixed askCheck
 block-small dump b next h small =
     either SmallOutcome (fixedRight (blockAt dump b) b) _ _ (omega arith, omega arith)
@@ -65,8 +66,8 @@ pub read-small : (dump out : List ℕ) → SmallOutcome (readAnswer dump out)
 read-small dump out =
     either SmallOutcome (eqb (length dump) 2048) _ _ (omega arith, omega arith)
     (either SmallOutcome (eqb (length out) 1890) _ _ (omega arith, omega arith)
-    (block-small dump 0 _ (omega arith) (block-small dump 1 _ (omega arith) (block-small dump 2 _ (omega arith) (block-small dump 3 _ (omega arith)
-    (first-bad SmallOutcome 1890 (firstAbove (softOf dump) 7) _ _ (λ h. (omega arith, omega arith)) (omega arith, omega arith)))))))
+    (each-keeps (askBlock dump) SmallOutcome 4 (λ b h next small. block-small dump b next (omega arith) small) _
+    (first-bad SmallOutcome 1890 (firstAbove (softOf dump) 7) _ _ (λ h. (omega arith, omega arith)) (omega arith, omega arith))))
 
 -- a run that stopped did so at a level that it came to
 abbrev StoppedBelow : ℕ → State → Type 0

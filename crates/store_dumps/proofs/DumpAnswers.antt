@@ -3,7 +3,7 @@ use mathlib.Core.Path.{_≡_, refl}
 use mathlib.Core.Bool.{Bool, true, false}
 use mathlib.Core.List.{List}
 use mathlib.Core.Logic.{_↔_}
-use Prim.Native.Nat.{ℕ, zero, suc, _<_, _≤_}
+use Prim.Native.Nat.{ℕ, _≤_}
 use native.Mathlib.Omega.{arith}
 use borrow.Author.Tests.{eq-eqb, eqb-true, leb-true}
 use lib.Dec.{eqb, leb}
@@ -14,9 +14,10 @@ use Rattle.dump.specs.Accepted.{Values, Accepted, Written}
 use Rattle.dump.proofs.Blocks.{soft-length}
 use Rattle.dump.proofs.Accepts.{reading-accepts-exactly-dumps}
 use Rattle.questions.specs.Questions.{ask, firstAbove}
-use Rattle.store_dumps.specs.Dumps.{writeAnswer, askFixed, askCheck, readAnswer}
+use Rattle.store_dumps.specs.Dumps.{writeAnswer, askFixed, askCheck, askBlock, readAnswer}
 use Rattle.questions.specs.declared.Outcome.{Outcome}
 use Rattle.questions.specs.declared.Outcome.the-variants.{Done, Refused}
+use Rattle.store_dumps.proofs.BlockByBlock.{each-passed, each-done}
 use Rattle.questions.proofs.FirstAbove.{below-first}
 use Rattle.questions.proofs.AllInRange.{no-value-above}
 
@@ -25,29 +26,20 @@ passed : (t : Bool) (n p : ℕ) (next : Outcome) → ask t (Refused n p) next �
 passed true n p next e = (refl, e)
 passed false n p next e = let z : _≡_ {A = ℕ} 0 1 = cc in absurd (omega arith)
 
--- the same of 7 and 8
-fixed-passed : (dump : List ℕ) (b : ℕ) (next : Outcome) → askFixed dump b next ≡ Done → (fixedRight (blockAt dump b) b ≡ true) × (next ≡ Done)
-unfolding askFixed
-fixed-passed dump b next e = passed (fixedRight (blockAt dump b) b) 7 b next e
+-- block b passes 7 and 8
+abbrev Passes : List ℕ → ℕ → Type 0
+Passes dump b = (fixedRight (blockAt dump b) b ≡ true) × (checkRight (blockAt dump b) ≡ true)
 
-check-passed : (dump : List ℕ) (b : ℕ) (next : Outcome) → askCheck dump b next ≡ Done → (checkRight (blockAt dump b) ≡ true) × (next ≡ Done)
-unfolding askCheck
-check-passed dump b next e = passed (checkRight (blockAt dump b)) 8 b next e
+block-done : (dump : List ℕ) (b : ℕ) (next : Outcome) → askBlock dump b next ≡ Done → Passes dump b × (next ≡ Done)
+unfolding askFixed askCheck
+block-done dump b next e =
+    let seven = passed (fixedRight (blockAt dump b) b) 7 b _ e in
+    let eight = passed (checkRight (blockAt dump b)) 8 b next (seven .1) in
+    ((seven .0, eight .0), eight .1)
 
-fixed-yes : (dump : List ℕ) (b : ℕ) → fixedRight (blockAt dump b) b ≡ true → (next : Outcome) → askFixed dump b next ≡ next
-unfolding askFixed
-fixed-yes dump b e next = simp e
-
-check-yes : (dump : List ℕ) (b : ℕ) → checkRight (blockAt dump b) ≡ true → (next : Outcome) → askCheck dump b next ≡ next
-unfolding askCheck
-check-yes dump b e next = simp e
-
-four-blocks : (P : ℕ → Type 0) → P 0 → P 1 → P 2 → P 3 → (b : ℕ) → b < 4 → P b
-four-blocks P at0 at1 at2 at3 zero h = at0
-four-blocks P at0 at1 at2 at3 (suc zero) h = at1
-four-blocks P at0 at1 at2 at3 (suc (suc zero)) h = at2
-four-blocks P at0 at1 at2 at3 (suc (suc (suc zero))) h = at3
-four-blocks P at0 at1 at2 at3 (suc (suc (suc (suc b)))) h = absurd (omega arith)
+block-yes : (dump : List ℕ) (b : ℕ) → Passes dump b → (next : Outcome) → askBlock dump b next ≡ next
+unfolding askFixed askCheck
+block-yes dump b (seven, eight) next = simp (seven, eight)
 
 values-in-range : (s : List ℕ) → length s ≡ 1890 → leb 1890 (firstAbove s 7) ≡ true → Values 1890 7 s
 values-in-range s size five = record { size = size; range = λ k h. let all : 1890 ≤ firstAbove s 7 = leb-true _ _ five in below-first s 7 k (omega arith) }
@@ -67,41 +59,16 @@ pub read-passes : (dump out : List ℕ) → readAnswer dump out ≡ Done → Acc
 read-passes dump out e =
     let one = passed (eqb (length dump) 2048) 1 0 _ e in
     let two = passed (eqb (length out) 1890) 2 0 _ (one .1) in
-    let seven0 = fixed-passed dump 0 _ (two .1) in
-    let eight0 = check-passed dump 0 _ (seven0 .1) in
-    let seven1 = fixed-passed dump 1 _ (eight0 .1) in
-    let eight1 = check-passed dump 1 _ (seven1 .1) in
-    let seven2 = fixed-passed dump 2 _ (eight1 .1) in
-    let eight2 = check-passed dump 2 _ (seven2 .1) in
-    let seven3 = fixed-passed dump 3 _ (eight2 .1) in
-    let eight3 = check-passed dump 3 _ (seven3 .1) in
-    let five = passed (leb 1890 (firstAbove (softOf dump) 7)) 5 (firstAbove (softOf dump) 7) Done (eight3 .1) in
-    record {
-      fixed = four-blocks (λ (b : ℕ). fixedRight (blockAt dump b) b ≡ true) (seven0 .0) (seven1 .0) (seven2 .0) (seven3 .0);
-      check = four-blocks (λ (b : ℕ). checkRight (blockAt dump b) ≡ true) (eight0 .0) (eight1 .0) (eight2 .0) (eight3 .0);
-      values = values-in-range (softOf dump) (soft-length dump) (five .0);
-    }
+    let blocks = each-done (askBlock dump) (Passes dump) (block-done dump) 4 _ (two .1) in
+    let five = passed (leb 1890 (firstAbove (softOf dump) 7)) 5 (firstAbove (softOf dump) 7) Done (blocks .1) in
+    record { fixed = λ b h. blocks .0 b h .0; check = λ b h. blocks .0 b h .1; values = values-in-range (softOf dump) (soft-length dump) (five .0) }
 
 pub read-accepts-exactly-what-write-makes : (dump out : List ℕ) → Values 2048 255 dump → length out ≡ 1890 → ((readAnswer dump out ≡ Done) ↔ Written dump)
 read-accepts-exactly-what-write-makes dump out bytes room = (
   λ e. reading-accepts-exactly-dumps dump bytes .0 (read-passes dump out e),
   λ written.
       let accepted = reading-accepts-exactly-dumps dump bytes .1 written in
-      let fixed : (b : ℕ) → b < 4 → (next : Outcome) → askFixed dump b next ≡ next = λ b h. fixed-yes dump b (accepted .fixed b h) in
-      let check : (b : ℕ) → b < 4 → (next : Outcome) → askCheck dump b next ≡ next = λ b h. check-yes dump b (accepted .check b h) in
-      let size = eq-eqb _ _ (bytes .size) in
-      let place = eq-eqb _ _ room in
-      simp (
-        size,
-        place,
-        fixed 0 (omega arith),
-        check 0 (omega arith),
-        fixed 1 (omega arith),
-        check 1 (omega arith),
-        fixed 2 (omega arith),
-        check 2 (omega arith),
-        fixed 3 (omega arith),
-        check 3 (omega arith),
-        no-value-above (softOf dump) 1890 7 (accepted .values .size) (accepted .values .range),
-      ),
+      let seven-and-eight = each-passed (askBlock dump) 4 (λ b h. block-yes dump b (accepted .fixed b h, accepted .check b h)) in
+      let five = no-value-above (softOf dump) 1890 7 (accepted .values .size) (accepted .values .range) in
+      simp (eq-eqb _ _ (bytes .size), eq-eqb _ _ room, seven-and-eight, five),
 )

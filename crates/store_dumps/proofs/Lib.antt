@@ -1,2 +1,3 @@
-pub mod DumpBlocks
+pub mod BlockByBlock
+pub mod BlockFaults
 pub mod DumpAnswers

@@ -1,6 +1,6 @@
--- The answers of the dump calls. Assumes nothing.
+-- 01: "Questions put to every call", those of the dump calls. Assumes nothing.
 use mathlib.Core.List.{List}
-use Prim.Native.Nat.{ℕ}
+use Prim.Native.Nat.{ℕ, zero, suc}
 use lib.Dec.{eqb, leb}
 use lib.ListN.{length}
 use Rattle.dump.specs.Block.{fixedRight, checkRight}
@@ -25,14 +25,20 @@ askFixed dump b next = ask (fixedRight (blockAt dump b) b) (Refused 7 b) next
 unfoldable pub askCheck : List ℕ → ℕ → Outcome → Outcome
 askCheck dump b next = ask (checkRight (blockAt dump b)) (Refused 8 b) next
 
+-- both, of block b
+abbrev pub askBlock : List ℕ → ℕ → Outcome → Outcome
+askBlock dump b next = askFixed dump b (askCheck dump b next)
+
+-- 01: "block by block": a question put to blocks 0, 1, .. n − 1, in this order
+unfoldable pub askEach : (ℕ → Outcome → Outcome) → ℕ → Outcome → Outcome
+askEach question zero next = next
+askEach question (suc n) next = askEach question n (question n next)
+
 -- 1: 2,048 bytes; 2: room for 1,890 values; 7 and 8, block by block; 5: each value 0..7, its place counted in the soft page
 abbrev pub readAnswer : List ℕ → List ℕ → Outcome
 readAnswer dump out =
     ask (eqb (length dump) 2048) (Refused 1 0)
     (ask (eqb (length out) 1890) (Refused 2 0)
-    (askFixed dump 0 (askCheck dump 0
-    (askFixed dump 1 (askCheck dump 1
-    (askFixed dump 2 (askCheck dump 2
-    (askFixed dump 3 (askCheck dump 3
+    (askEach (askBlock dump) 4
     (ask (leb 1890 (firstAbove (softOf dump) 7)) (Refused 5 (firstAbove (softOf dump) 7))
-    Done))))))))))
+    Done)))

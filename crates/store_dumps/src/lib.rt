@@ -5,7 +5,7 @@ ghost use lib.ListN.{length};
 ghost use Rattle.dump.specs.Dump.{dumpOf, softOf};
 ghost use Rattle.questions.specs.Outcome.{Filled, number};
 ghost use Rattle.questions.specs.declared.Outcome.the-variants.{Done};
-ghost use Rattle.store_dumps.specs.Dumps.{writeAnswer, askFixed, askCheck, readAnswer};
+ghost use Rattle.store_dumps.specs.Dumps.{writeAnswer, askBlock, readAnswer};
 use questions::Outcome;
 
 // Writes the dump of a soft page of 1,890 values into `out`, of 2,048 bytes. Refused by 1, 2 and 5; `out` is then as it was.
@@ -29,7 +29,7 @@ pub fn write_dump(soft: &[u8], out: &mut [u8]) -> Outcome
 // Questions 7 and 8 of block b: the number of the first that is answered no, 0 if there is none.
 fn ask_block(dump: &[u8], b: usize) -> u64
     requires { ⌜ (length (now dump) ≡ 2048) × (b < 4) ⌝ }
-    ensures { λ r. ⌜ r ≡ number (askFixed (now (dump .entry)) b (askCheck (now (dump .entry)) b Done)) ⌝ }
+    ensures { λ r. ⌜ r ≡ number (askBlock (now (dump .entry)) b Done) ⌝ }
 {
     let block = blocks::block_at(dump, b);
     if !blocks::fixed_right(block, b) {
@@ -52,21 +52,13 @@ pub fn read_dump(dump: &[u8], out: &mut [u8]) -> Outcome
     if out.len() != 1890 {
         return Outcome::Refused(2, 0);
     }
-    let first = ask_block(dump, 0);
-    if first != 0 {
-        return Outcome::Refused(first, 0);
-    }
-    let second = ask_block(dump, 1);
-    if second != 0 {
-        return Outcome::Refused(second, 1);
-    }
-    let third = ask_block(dump, 2);
-    if third != 0 {
-        return Outcome::Refused(third, 2);
-    }
-    let fourth = ask_block(dump, 3);
-    if fourth != 0 {
-        return Outcome::Refused(fourth, 3);
+    let mut b = 0;
+    while b < 4 {
+        let number = ask_block(dump, b);
+        if number != 0 {
+            return Outcome::Refused(number, b as u64);
+        }
+        b += 1;
     }
     let mut values = [0u8; 1890];
     blocks::read(dump, &mut values);

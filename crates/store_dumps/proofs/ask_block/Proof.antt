@@ -7,7 +7,7 @@ use borrow.Author.Needs.{needs}
 use Rattle.dump.specs.Block.{fixedRight, checkRight}
 use Rattle.dump.proofs.Blocks.{length-of-block}
 use Rattle.store_dumps.specs.Dumps.{askFixed, askCheck}
-use Rattle.store_dumps.proofs.DumpBlocks.{told-no, told-yes}
+use Rattle.store_dumps.proofs.BlockFaults.{told-no, told-yes}
 use Rattle.store_dumps.proofs.ask_block.Statement.{statement}
 use Rattle.store_dumps.proofs.ask_block.Tie as tie
 

@@ -1,160 +1,123 @@
--- `store_dumps::read_dump` meets its contract: each return rewrites with the tests that led there, a block's by the number that asking it gave. Assumes nothing.
-use mathlib.Core.Path.{_≡_, _∙_, ap}
+-- `store_dumps::read_dump` meets its contract. The loop's invariant: the blocks passed answer 7 and 8 with yes. Each return rewrites with the tests that led there. Assumes nothing.
+use mathlib.Core.Path.{_≡_, _∙_, ap, sym}
 use mathlib.Core.List.{List}
-use Prim.Native.Nat.{ℕ, _≤_, _<_}
+use Prim.Native.Nat.{ℕ, _≤_, _<_, _-_}
+use native.Mathlib.Omega.{arith}
+use borrow.Author.Count.{below-more}
 use borrow.Author.Needs.{needs}
 use borrow.Author.Tests.{le-leb, lt-leb, eq-eqb, ne-eqb}
 use Rattle.dump.specs.Dump.{softOf}
 use Rattle.questions.specs.Questions.{firstAbove}
-use Rattle.store_dumps.proofs.DumpBlocks.{block-passed, block-refused}
+use Rattle.questions.specs.Outcome.{number}
+use Rattle.questions.specs.declared.Outcome.the-variants.{Done}
+use Rattle.store_dumps.specs.Dumps.{askBlock}
+use Rattle.store_dumps.proofs.BlockFaults.{first-bad-block-is-named, values-are-asked-last}
 use Rattle.questions.proofs.Filled.{refused, done}
 use Rattle.store_dumps.proofs.read_dump.Statement.{statement}
 use Rattle.store_dumps.proofs.read_dump.Tie as tie
 
-returns : tie.Need-returns
+abbrev Inv-loop : tie.InvT-loop
+Inv-loop dump out b₀ b = (b ≤ 4) × ((a : ℕ) → a < b → number (askBlock dump a Done) ≡ 0)
+
+abbrev μ-loop : tie.MeasureT-loop
+μ-loop dump out b₀ b = 4 - b
+
+returns : tie.Need-returns Inv-loop μ-loop
 returns c = refused (simp (ne-eqb _ _ (c .if1 .taken)))
 
-returns-2 : tie.Need-returns-2
+returns-2 : tie.Need-returns-2 Inv-loop μ-loop
 returns-2 c = refused (simp (eq-eqb _ _ (c .before .if1 .left), ne-eqb _ _ (c .if2 .taken)))
 
-ask-block-requires : tie.Need-ask-block-requires
+loop-holds : tie.Need-loop-holds Inv-loop μ-loop
+loop-holds c = search needs
+
+ask-block-requires : tie.Need-ask-block-requires Inv-loop μ-loop
 ask-block-requires c κs = search needs
 
-returns-3 : tie.Need-returns-3
+returns-3 : tie.Need-returns-3 Inv-loop μ-loop
 returns-3 c =
-    let asked = c .before .before in
-    let dump = asked .before .before .before .before .args .dump .now in
-    let one = eq-eqb _ _ (asked .before .if1 .left) in
-    let two = eq-eqb _ _ (asked .if2 .left) in
-    let stops = block-refused dump 0 (c .before .ask-block .ensures) (c .if3 .taken) in
-    refused (simp (one, two, stops))
+    let at-loop = c .before .before .before in
+    let asked = at-loop .before in
+    let start = asked .before .before .before .before in
+    refused
+    (first-bad-block-is-named (start .args .dump .now) (start .args .out .now) (at-loop .loop .b) _ (asked .before .if1 .left) (asked .if2 .left) (omega arith) (at-loop .loop .inv .1)
+    (c .before .ask-block .ensures) (c .if3 .taken))
 
-ask-block-requires-2 : tie.Need-ask-block-requires-2
-ask-block-requires-2 c κs = search needs
+add-b : tie.Need-add-b Inv-loop μ-loop
+add-b c = search needs
 
-returns-4 : tie.Need-returns-4
-returns-4 c =
-    let first = c .before .before in
-    let asked = first .before .before in
-    let dump = asked .before .before .before .before .args .dump .now in
-    let one = eq-eqb _ _ (asked .before .if1 .left) in
-    let two = eq-eqb _ _ (asked .if2 .left) in
-    let on-first = block-passed dump 0 (first .before .ask-block .ensures) (first .if3 .left) in
-    let stops = block-refused dump 1 (c .before .ask-block2 .ensures) (c .if4 .taken) in
-    refused (simp (one, two, on-first, stops))
+loop-less : tie.Need-loop-less Inv-loop μ-loop
+loop-less c = search needs
 
-ask-block-requires-3 : tie.Need-ask-block-requires-3
-ask-block-requires-3 c κs = search needs
+loop-again : tie.Need-loop-again Inv-loop μ-loop
+loop-again c =
+    let at-loop = c .before .before .before in
+    (search needs, below-more _ _ (at-loop .loop .inv .1) (sym (c .before .ask-block .ensures) ∙ c .if3 .left))
 
-returns-5 : tie.Need-returns-5
-returns-5 c =
-    let second = c .before .before in
-    let first = second .before .before in
-    let asked = first .before .before in
-    let dump = asked .before .before .before .before .args .dump .now in
-    let one = eq-eqb _ _ (asked .before .if1 .left) in
-    let two = eq-eqb _ _ (asked .if2 .left) in
-    let on-first = block-passed dump 0 (first .before .ask-block .ensures) (first .if3 .left) in
-    let on-second = block-passed dump 1 (second .before .ask-block2 .ensures) (second .if4 .left) in
-    let stops = block-refused dump 2 (c .before .ask-block3 .ensures) (c .if5 .taken) in
-    refused (simp (one, two, on-first, on-second, stops))
-
-ask-block-requires-4 : tie.Need-ask-block-requires-4
-ask-block-requires-4 c κs = search needs
-
-returns-6 : tie.Need-returns-6
-returns-6 c =
-    let third = c .before .before in
-    let second = third .before .before in
-    let first = second .before .before in
-    let asked = first .before .before in
-    let dump = asked .before .before .before .before .args .dump .now in
-    let one = eq-eqb _ _ (asked .before .if1 .left) in
-    let two = eq-eqb _ _ (asked .if2 .left) in
-    let on-first = block-passed dump 0 (first .before .ask-block .ensures) (first .if3 .left) in
-    let on-second = block-passed dump 1 (second .before .ask-block2 .ensures) (second .if4 .left) in
-    let on-third = block-passed dump 2 (third .before .ask-block3 .ensures) (third .if5 .left) in
-    let stops = block-refused dump 3 (c .before .ask-block4 .ensures) (c .if6 .taken) in
-    refused (simp (one, two, on-first, on-second, on-third, stops))
-
-slice-aggregate-read : tie.Need-slice-aggregate-read
+slice-aggregate-read : tie.Need-slice-aggregate-read Inv-loop μ-loop
 slice-aggregate-read c = search needs
 
-read-requires : tie.Need-read-requires
+read-requires : tie.Need-read-requires Inv-loop μ-loop
 read-requires c κs = search needs
 
-slice-aggregate-first-above : tie.Need-slice-aggregate-first-above
+slice-aggregate-first-above : tie.Need-slice-aggregate-first-above Inv-loop μ-loop
 slice-aggregate-first-above c = search needs
 
-first-above-requires : tie.Need-first-above-requires
+first-above-requires : tie.Need-first-above-requires Inv-loop μ-loop
 first-above-requires c κs = search needs
 
-returns-7 : tie.Need-returns-7
-returns-7 c =
+returns-4 : tie.Need-returns-4 Inv-loop μ-loop
+returns-4 c =
     let told = c .before in
     let copied = told .before .before .before in
-    let fourth = copied .before .before in
-    let third = fourth .before .before in
-    let second = third .before .before in
-    let first = second .before .before in
-    let asked = first .before .before in
-    let dump = asked .before .before .before .before .args .dump .now in
-    let one = eq-eqb _ _ (asked .before .if1 .left) in
-    let two = eq-eqb _ _ (asked .if2 .left) in
-    let on-first = block-passed dump 0 (first .before .ask-block .ensures) (first .if3 .left) in
-    let on-second = block-passed dump 1 (second .before .ask-block2 .ensures) (second .if4 .left) in
-    let on-third = block-passed dump 2 (third .before .ask-block3 .ensures) (third .if5 .left) in
-    let on-fourth = block-passed dump 3 (fourth .before .ask-block4 .ensures) (fourth .if6 .left) in
+    let at-loop = copied .before .before .before in
+    let asked = at-loop .before in
+    let start = asked .before .before .before .before in
+    let dump = start .args .dump .now in
+    let last = values-are-asked-last dump (start .args .out .now) (asked .before .if1 .left) (asked .if2 .left) (λ b h. at-loop .loop .inv .1 b (omega arith)) in
     let found : told .first-above .result ≡ firstAbove (softOf dump) 7 = told .first-above .ensures ∙ ap (λ (s : List ℕ). firstAbove s 7) (copied .read .ensures) in
-    let bad : firstAbove (softOf dump) 7 < 1890 = rw found at (c .if7 .taken) in
-    refused (simp (one, two, on-first, on-second, on-third, on-fourth, lt-leb _ _ bad, found))
+    let bad : firstAbove (softOf dump) 7 < 1890 = rw found at (c .if4 .taken) in
+    refused (last ∙ simp (lt-leb _ _ bad, found))
 
-read-requires-2 : tie.Need-read-requires-2
+read-requires-2 : tie.Need-read-requires-2 Inv-loop μ-loop
 read-requires-2 c κs = search needs
 
-same-length : tie.Need-same-length
+same-length : tie.Need-same-length Inv-loop μ-loop
 same-length c = search needs
 
-returns-8 : tie.Need-returns-8
-returns-8 c =
+returns-5 : tie.Need-returns-5 Inv-loop μ-loop
+returns-5 c =
     let passed = c .before .before .before .before in
     let told = passed .before in
     let copied = told .before .before .before in
-    let fourth = copied .before .before in
-    let third = fourth .before .before in
-    let second = third .before .before in
-    let first = second .before .before in
-    let asked = first .before .before in
-    let dump = asked .before .before .before .before .args .dump .now in
-    let one = eq-eqb _ _ (asked .before .if1 .left) in
-    let two = eq-eqb _ _ (asked .if2 .left) in
-    let on-first = block-passed dump 0 (first .before .ask-block .ensures) (first .if3 .left) in
-    let on-second = block-passed dump 1 (second .before .ask-block2 .ensures) (second .if4 .left) in
-    let on-third = block-passed dump 2 (third .before .ask-block3 .ensures) (third .if5 .left) in
-    let on-fourth = block-passed dump 3 (fourth .before .ask-block4 .ensures) (fourth .if6 .left) in
+    let at-loop = copied .before .before .before in
+    let asked = at-loop .before in
+    let start = asked .before .before .before .before in
+    let dump = start .args .dump .now in
+    let last = values-are-asked-last dump (start .args .out .now) (asked .before .if1 .left) (asked .if2 .left) (λ b h. at-loop .loop .inv .1 b (omega arith)) in
     let found : told .first-above .result ≡ firstAbove (softOf dump) 7 = told .first-above .ensures ∙ ap (λ (s : List ℕ). firstAbove s 7) (copied .read .ensures) in
-    let good : 1890 ≤ firstAbove (softOf dump) 7 = rw found at (passed .if7 .left) in
-    done (simp (one, two, on-first, on-second, on-third, on-fourth, le-leb _ _ good)) (c .before .before .read2 .ensures)
+    let good : 1890 ≤ firstAbove (softOf dump) 7 = rw found at (passed .if4 .left) in
+    done (last ∙ simp (le-leb _ _ good)) (c .before .before .read2 .ensures)
 
 pub read-dump-spec : {M : Type 1} → statement M
 read-dump-spec =
     tie.close
     (tie.spec
+    Inv-loop
+    μ-loop
     returns
     returns-2
+    loop-holds
     ask-block-requires
     returns-3
-    ask-block-requires-2
-    returns-4
-    ask-block-requires-3
-    returns-5
-    ask-block-requires-4
-    returns-6
+    add-b
+    loop-less
+    loop-again
     slice-aggregate-read
     read-requires
     slice-aggregate-first-above
     first-above-requires
-    returns-7
+    returns-4
     read-requires-2
     same-length
-    returns-8)
+    returns-5)
