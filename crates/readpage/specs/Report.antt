@@ -1,4 +1,4 @@
--- What the program prints for the bytes it read: 01, "The station's interface". Assumes nothing.
+-- 01, "The station's interface": what the program prints for an input. Assumes nothing.
 use mathlib.Core.List.{List}
 use Prim.Native.Nat.{ℕ}
 use lib.ListN.{replicate}

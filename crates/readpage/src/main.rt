@@ -2,7 +2,7 @@
 // The whole output is built in a buffer by functions with contracts, then written line by line.
 ghost use mathlib.Core.Path.{_≡_};
 ghost use mathlib.Core.Bool.{true};
-ghost use Prim.Native.Nat.{_≤_};
+ghost use Prim.Native.Nat.{_<_, _≤_};
 ghost use lib.Dec.{leb};
 ghost use lib.ListN.{length, take};
 ghost use Rattle.io.specs.Counts.{Counts};
@@ -10,7 +10,8 @@ ghost use Rattle.trellis.specs.Demand.{supercode};
 ghost use Rattle.questions.specs.Questions.{firstAbove};
 ghost use Rattle.store_pages.specs.Pages.{decodedPage};
 ghost use Rattle.listing.specs.Text.{Appended};
-ghost use Rattle.readpage.specs.Report.{decodedText, outputOf};
+ghost use Rattle.readpage.specs.Report.{decodedText};
+ghost use Rattle.readpage.specs.Input.{PrintedFor};
 use libc::STDIN_FILENO;
 use libc::STDOUT_FILENO;
 use questions::Outcome;
@@ -35,22 +36,22 @@ fn page_text(soft: &[u8], out: &mut [u8]) -> usize
     listing::append_data(&data, out, bytes)
 }
 
-// The whole output for the bytes that were read.
-fn output_of(dump: &[u8], out: &mut [u8]) -> usize
-    requires { ⌜ 677 ≤ length (now out) ⌝ }
+// The whole output for the input whose first bytes were read: n of them stand in `input`, which has room for more than a dump, so that a longer input shows.
+fn output_of(input: &[u8], n: usize, out: &mut [u8]) -> usize
+    requires { ⌜ (2048 < length (now input)) × Counts n (now input) × (677 ≤ length (now out)) ⌝ }
     ensures { λ r. ⌜ Counts r (now (out .exit)) ⌝ }
-    ensures { λ r. ⌜ take r (now (out .exit)) ≡ outputOf (now (dump .entry)) ⌝ }
+    ensures { λ r. ⌜ PrintedFor (now (input .entry)) n (take r (now (out .exit))) ⌝ }
 {
     let mut soft = [0u8; 1890];
-    match store_dumps::read_dump(dump, &mut soft) {
+    match store_dumps::read_dump(&input[..n], &mut soft) {
         Outcome::Done => page_text(&soft, out),
-        Outcome::Refused(n, p) => listing::append_refused(n, p, out, 0),
+        Outcome::Refused(number, place) => listing::append_refused(number, place, out, 0),
     }
 }
 
-// Writes a text that is the output of the dump, each line by a write of its own. The library's write promises nothing of the bytes that it takes, so what they are is asked here.
-fn write_output(dump: &[u8], text: &[u8])
-    requires { ⌜ now text ≡ outputOf (now dump) ⌝ }
+// Writes the output for the input, each line by a write of its own. The library's write promises nothing of the bytes that it takes, so what they are is asked here.
+fn write_output(input: &[u8], n: usize, text: &[u8])
+    requires { ⌜ PrintedFor (now input) n (now text) ⌝ }
 {
     let mut start = 0;
     while start < text.len() {
@@ -65,6 +66,6 @@ fn main() {
     let mut input = [0u8; 2049];
     let n = io::read_full(STDIN_FILENO, &mut input);
     let mut text = [0u8; 677];
-    let m = output_of(&input[..n], &mut text);
-    write_output(&input[..n], &text[..m]);
+    let m = output_of(&input, n, &mut text);
+    write_output(&input, n, &text[..m]);
 }

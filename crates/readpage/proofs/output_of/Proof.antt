@@ -2,12 +2,17 @@
 use mathlib.Core.Path.{_∙_}
 use native.Mathlib.Omega.{arith}
 use borrow.Author.Needs.{needs}
+use lib.ListN.{take}
+use Rattle.readpage.proofs.Input.{printed-for}
 use Rattle.readpage.proofs.Reading.{soft-in-range, counted, output-read, output-refused}
 use Rattle.readpage.proofs.output_of.Statement.{statement}
 use Rattle.readpage.proofs.output_of.Tie as tie
 
 slice-aggregate-read-dump : tie.Need-slice-aggregate-read-dump
 slice-aggregate-read-dump c = search needs
+
+slice-aggregate-read-dump-2 : tie.Need-slice-aggregate-read-dump-2
+slice-aggregate-read-dump-2 c = search needs
 
 read-dump-requires : tie.Need-read-dump-requires
 read-dump-requires c κs = search needs
@@ -21,12 +26,13 @@ slice-aggregate-page-text c = search needs
 page-text-requires : tie.Need-page-text-requires
 page-text-requires c κs =
     let read = c .before .before .before .before .before .read-dump in
-    let start = c .before .before .before .before .before .before .before .before .before in
+    let start = c .before .before .before .before .before .before .before .before .before .before in
     let told = c .before .before .enum-told .given .1 in
-    (c .before .before .before .before .soft2 .given, soft-in-range (start .args .dump .now) _ _ _ (read .ensures) told, start .pre)
+    let dump = take (start .args .n) (start .args .input .now) in
+    (c .before .before .before .before .soft2 .given, soft-in-range dump _ _ _ (read .ensures) told, start .pre .2)
 
-enum-known-n : tie.Need-enum-known-n
-enum-known-n c = search needs
+enum-known-number : tie.Need-enum-known-number
+enum-known-number c = search needs
 
 append-refused-requires : tie.Need-append-refused-requires
 append-refused-requires c κs = search needs
@@ -37,10 +43,12 @@ same-length c = search needs
 returns : tie.Need-returns
 returns c =
     let read = c .before .before .before .before .before .before .before .before .read-dump in
-    let start = c .before .before .before .before .before .before .before .before .before .before .before .before in
+    let start = c .before .before .before .before .before .before .before .before .before .before .before .before .before in
     let told = c .before .before .before .before .before .enum-told .given .1 in
     let text = c .before .before .page-text .ensures in
-    (counted text (omega (arith, start .pre)), text .bytes ∙ output-read (start .args .dump .now) _ _ (read .ensures) told)
+    let buffer = start .args .input .now in
+    let n = start .args .n in
+    (counted text (start .pre .2), printed-for buffer n _ (start .pre .0) (text .bytes ∙ output-read (take n buffer) _ _ (read .ensures) told))
 
 same-length-2 : tie.Need-same-length-2
 same-length-2 c = search needs
@@ -48,21 +56,24 @@ same-length-2 c = search needs
 returns-2 : tie.Need-returns-2
 returns-2 c =
     let read = c .before .before .before .before .before .before .before .before .read-dump in
-    let start = c .before .before .before .before .before .before .before .before .before .before .before .before in
-    let told = c .before .before .before .before .before .n .given .1 in
+    let start = c .before .before .before .before .before .before .before .before .before .before .before .before .before in
+    let told = c .before .before .before .before .before .number .given .1 in
     let text = c .before .before .append-refused .ensures in
-    (counted text (omega (arith, start .pre)), text .bytes ∙ output-refused (start .args .dump .now) _ _ _ _ (read .ensures) told)
+    let buffer = start .args .input .now in
+    let n = start .args .n in
+    (counted text (omega (arith, start .pre .2)), printed-for buffer n _ (start .pre .0) (text .bytes ∙ output-refused (take n buffer) _ _ _ _ (read .ensures) told))
 
 pub output-of-spec : {M : Type 1} → statement M
 output-of-spec =
     tie.close
     (tie.spec
     slice-aggregate-read-dump
+    slice-aggregate-read-dump-2
     read-dump-requires
     enum-told
     slice-aggregate-page-text
     page-text-requires
-    enum-known-n
+    enum-known-number
     append-refused-requires
     same-length
     returns

@@ -6,10 +6,10 @@ use Rattle.readpage.proofs.write_output.Statement.{statement}
 use Rattle.readpage.proofs.write_output.Tie as tie
 
 abbrev Inv-loop : tie.InvT-loop
-Inv-loop dump text start₀ start = start ≤ length text
+Inv-loop input n text start₀ start = start ≤ length text
 
 abbrev μ-loop : tie.MeasureT-loop
-μ-loop dump text start₀ start = length text - start
+μ-loop input n text start₀ start = length text - start
 
 loop-holds : tie.Need-loop-holds Inv-loop μ-loop
 loop-holds c = search needs
