@@ -25,7 +25,7 @@
 
    STACK. As measured on x86-64, station_decode_page takes some 27 KB and the others up to 4 KB.
 
-   The archive is libstation.a, made by `rt staticlib station`; it needs no other library. */
+   The archive is libstation.a, made by `rt staticlib station`. It needs memcpy and memset of the C library, and nothing else. */
 #ifndef STATION_H
 #define STATION_H
 

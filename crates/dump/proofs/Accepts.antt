@@ -13,7 +13,7 @@ use Rattle.dump.specs.Check.{checkOf}
 use Rattle.dump.specs.Listed.{joined}
 use Rattle.dump.specs.Block.{softPlace, holdsValue, fixedByte, bodyByte, bodyOf, blockOf, byteRight, fixedRight, checkRight}
 use Rattle.dump.specs.Dump.{dumpOf, blockAt, softOf}
-use Rattle.dump.specs.Accepted.{Values, Accepted, Written}
+use Rattle.dump.specs.Accepted.{Values, Accepted, MadeByWriting}
 use Rattle.dump.proofs.AllBelow.{all-at}
 use Rattle.dump.proofs.Blocks.{length-of-block, byte-of-block, value-of-soft}
 use Rattle.dump.proofs.Check.{weighted-take}
@@ -77,7 +77,7 @@ accepted-is-dump-of-its-values dump bytes accepted =
         let last : getD (blockAt dump b) 511 0 ≤ 255 = rw (byte-of-block dump b 511 (omega arith)) (bytes .range (b * 512 + 511) (omega arith)) in
         block-kept dump b (length-of-block dump b (bytes .size) h) (omega arith) (accepted .fixed b h) (accepted .check b h)
 
-pub reading-accepts-exactly-dumps : (dump : List ℕ) → Values 2048 255 dump → (Accepted dump ↔ Written dump)
+pub reading-accepts-exactly-dumps : (dump : List ℕ) → Values 2048 255 dump → (Accepted dump ↔ MadeByWriting dump)
 reading-accepts-exactly-dumps dump bytes = (
   λ accepted. record { soft = softOf dump; page = accepted .values; made = accepted-is-dump-of-its-values dump bytes accepted },
   λ written. subst Accepted (sym (written .made)) (reading-undoes-writing (written .soft) (written .page) .1),

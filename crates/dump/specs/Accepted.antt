@@ -19,7 +19,7 @@ pub record Accepted (dump : List ℕ) : Type 0 where
   pub values : Values 1890 7 (softOf dump)
 
 -- writing makes it of some soft page
-pub record Written (dump : List ℕ) : Type 0 where
+pub record MadeByWriting (dump : List ℕ) : Type 0 where
   pub soft : List ℕ
   pub page : Values 1890 7 soft
   pub made : dump ≡ dumpOf soft

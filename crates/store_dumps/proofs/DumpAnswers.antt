@@ -10,7 +10,7 @@ use lib.Dec.{eqb, leb}
 use lib.ListN.{length}
 use Rattle.dump.specs.Block.{fixedRight, checkRight}
 use Rattle.dump.specs.Dump.{blockAt, softOf}
-use Rattle.dump.specs.Accepted.{Values, Accepted, Written}
+use Rattle.dump.specs.Accepted.{Values, Accepted, MadeByWriting}
 use Rattle.dump.proofs.Blocks.{soft-length}
 use Rattle.dump.proofs.Accepts.{reading-accepts-exactly-dumps}
 use Rattle.questions.specs.Questions.{ask, firstAbove}
@@ -63,7 +63,7 @@ read-passes dump out e =
     let five = passed (leb 1890 (firstAbove (softOf dump) 7)) 5 (firstAbove (softOf dump) 7) Done (blocks .1) in
     record { fixed = λ b h. blocks .0 b h .0; check = λ b h. blocks .0 b h .1; values = values-in-range (softOf dump) (soft-length dump) (five .0) }
 
-pub read-accepts-exactly-what-write-makes : (dump out : List ℕ) → Values 2048 255 dump → length out ≡ 1890 → ((readAnswer dump out ≡ Done) ↔ Written dump)
+pub read-accepts-exactly-what-write-makes : (dump out : List ℕ) → Values 2048 255 dump → length out ≡ 1890 → ((readAnswer dump out ≡ Done) ↔ MadeByWriting dump)
 read-accepts-exactly-what-write-makes dump out bytes room = (
   λ e. reading-accepts-exactly-dumps dump bytes .0 (read-passes dump out e),
   λ written.
