@@ -16,6 +16,9 @@ typedef struct { uint64_t number, place; } filled;
 /* What page decoding tells. */
 typedef struct { uint64_t number, place, steps; uint8_t changed[4], erased[4]; } paged;
 
+/* A part of the caller's own bytes. */
+typedef struct { const uint8_t *bytes; size_t count; } part;
+
 told entry_encode_column(const uint8_t *symbols, size_t count);
 told entry_level_word(uint64_t level, uint64_t symbol);
 told entry_reimage(uint64_t column, uint64_t level);
@@ -26,6 +29,7 @@ filled entry_decode_row(uint64_t level, const uint8_t *symbols, size_t count, co
 filled entry_encode_page(const uint8_t *data, size_t count, uint8_t *out, size_t room);
 paged entry_decode_page(const uint8_t *soft, size_t count, uint64_t limit, uint8_t *data, size_t room);
 paged entry_decode_page_whole(const uint8_t *soft, size_t count, uint64_t limit, uint8_t *data, size_t room);
+void entry_column_of(const uint8_t *page, size_t count, size_t column, part *out);
 filled entry_write_dump(const uint8_t *soft, size_t count, uint8_t *out, size_t room);
 filled entry_read_dump(const uint8_t *dump, size_t count, uint8_t *out, size_t room);
 

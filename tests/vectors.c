@@ -349,6 +349,31 @@ static tally check_trips(void) {
     return t;
 }
 
+static part looked_up(const uint8_t *page, size_t count, size_t column) {
+    part p = {page, 0};
+    entry_column_of(page, count, column, &p);
+    return p;
+}
+
+/* The look-up hands back the page's own 30 bytes of a column; for a column above 62 or a page of another length the part is empty. */
+static tally check_look_ups(void) {
+    static const size_t beyond[] = {63, 64, 126, (size_t)1 << 63, SIZE_MAX}, others[] = {0, 30, SOFT - 30, SOFT - 1, SOFT + 1, SOFT + 30};
+    static uint8_t page[SOFT + 30], kept[SOFT + 30];
+    tally t = {0, 0, 0};
+    for (int i = 0; i < SOFT + 30; i++) kept[i] = page[i] = (uint8_t)(i * 5 / 3 % 8);
+    for (size_t j = 0; j < ROW; j++, t.checked++) {
+        part p = looked_up(page, SOFT, j);
+        t.differ += !(p.bytes == page + 30 * j && p.count == 30 && !memcmp(p.bytes, kept + 30 * j, 30));
+    }
+    for (size_t i = 0; i < sizeof beyond / sizeof beyond[0]; i++, t.checked++) t.differ += looked_up(page, SOFT, beyond[i]).count != 0;
+    for (size_t i = 0; i < sizeof others / sizeof others[0]; i++)
+        for (size_t j = 0; j <= ROW; j++, t.checked++) t.differ += looked_up(page, others[i], j).count != 0;
+    t.checked++;
+    t.differ += memcmp(page, kept, sizeof page) != 0;
+    printf("look-ups: %lu checked, %lu differ\n", t.checked, t.differ);
+    return t;
+}
+
 int main(int argc, char **argv) {
     const char *folder = argc > 1 ? argv[1] : "tests/vectors";
     tally files[] = {
@@ -359,6 +384,7 @@ int main(int argc, char **argv) {
         check_file(folder, "refusals.txt", refusal_line),
         check_dumps(folder),
         check_trips(),
+        check_look_ups(),
     };
     unsigned long checked = 0, differ = 0;
     if (files[3].checked) {

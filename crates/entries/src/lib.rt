@@ -8,7 +8,11 @@ ghost use Rattle.dump.specs.Dump.{dumpOf, softOf};
 ghost use Rattle.store_rows.specs.Rows.{rootsOf, encodeRowAnswer, decodeRowAnswer};
 ghost use Rattle.store_dumps.specs.Dumps.{writeAnswer, readAnswer};
 ghost use Rattle.entries.specs.Told.{toldOf, foundOf, replyOf, Replied, pageReplyOf, PageReplied};
+ghost use Prim.Native.Nat.{_*_, _<_};
+ghost use lib.ListN.{length};
 ghost use Rattle.concatenated.specs.Format.{shortPage};
+ghost use Rattle.concatenated.specs.Places.{placedAt};
+ghost use Rattle.concatenated.specs.SoftPage.{columnPart};
 ghost use Rattle.concatenated.specs.Written.{writtenPage};
 ghost use Rattle.concatenated.specs.OuterCode.{shortEncoder};
 ghost use Rattle.store_pages.specs.Pages.{encodePageAnswer};
@@ -200,4 +204,13 @@ pub extern "C" fn entry_decode_page_whole(soft: &[u8], limit: u64, data: &mut [u
     ensures { λ r. ⌜ PageReplied whole (now (soft .entry)) limit (now («data» .entry)) r (now («data» .exit)) ⌝ }
 {
     numbers_of_page(store_pages::decode_page_whole(soft, limit, data))
+}
+
+// The part of the page that the look-up hands back: its contents, and where in the page it lies.
+#[no_mangle]
+pub extern "C" fn entry_column_of<'a>(page: &'a [u8], j: usize, part: &mut &'a [u8])
+    ensures { λ _. ⌜ now (now (part .exit)) ≡ columnPart shortPage (now (page .entry)) j ⌝ }
+    ensures { λ _. ⌜ (length (now (page .entry)) ≡ 1890 → j < 63 → placedAt (now (part .exit) .ptr) (page .entry .ptr) (j * 30)) ⌝ }
+{
+    *part = store_pages::column_of(page, j);
 }
