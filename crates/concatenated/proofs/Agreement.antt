@@ -6,8 +6,9 @@ use Prim.Native.Nat.{ℕ, zero, suc, _+_, _≤_, _<_}
 use native.Mathlib.Omega.{arith}
 use Rattle.column.specs.Shape.{Shape, levels}
 use Rattle.column.specs.Level.{reimaged}
+use Rattle.reedsolomon.specs.Search.{OuterAnswer, Found, NoneInReach}
 use Rattle.concatenated.specs.Lists.{All, sum}
-use Rattle.concatenated.specs.Outer.{RowAnswer, row, none, RowDecoder}
+use Rattle.concatenated.specs.Outer.{RowDecoder}
 use Rattle.concatenated.specs.Decode.{Reading, found, spent, Reader, mark, marks, symbol, symbols, count, steps, changed, Level, level, State, going, stopped, decodedRow, settle, onward, run, Reaches, outcome, decoded}
 use Rattle.concatenated.specs.Readers.{Apart, Agree, sumOver, sumBelow}
 
@@ -51,11 +52,11 @@ same-level S i d rs ss r a =
     ap₂ (λ (xs : List ℕ) (ms : List Bool). record { symbols = r; changed = changed xs ms r; erased = ms }) (a .same-symbols) (a .same-marks)
 
 module _ (S : Shape) (outer : RowDecoder) where
-  same-settling : (i d e : ℕ) (cs : List (List ℕ)) (ls : List Level) (m n : ℕ) (rs ss : List Reading) → n ≡ m + d → SameReadings S i e rs ss → (o : RowAnswer)
+  same-settling : (i d e : ℕ) (cs : List (List ℕ)) (ls : List Level) (m n : ℕ) (rs ss : List Reading) → n ≡ m + d → SameReadings S i e rs ss → (o : OuterAnswer)
       → SameStates (d + e) (settle S outer i cs rs ls m o) (settle S outer i cs ss ls n o)
   unfolding settle
-  same-settling i d e cs ls m n rs ss h a none = refl
-  same-settling i d e cs ls m n rs ss h a (row r) = (refl, ap (λ (l : Level). ls ++ (l ∷ [])) (same-level S i e rs ss r a), omega (arith, a .more-steps))
+  same-settling i d e cs ls m n rs ss h a NoneInReach = refl
+  same-settling i d e cs ls m n rs ss h a (Found r) = (refl, ap (λ (l : Level). ls ++ (l ∷ [])) (same-level S i e rs ss r a), omega (arith, a .more-steps))
 
   same-step : (f g : Reader) (i d e : ℕ) (cs : List (List ℕ)) (ls : List Level) (m n : ℕ) → n ≡ m + d → SameReadings S i e (map (f i) cs) (map (g i) cs)
       → SameStates (d + e) (onward S outer f i (going cs ls m)) (onward S outer g i (going cs ls n))
@@ -64,7 +65,7 @@ module _ (S : Shape) (outer : RowDecoder) where
       let rs = map (f i) cs in
       let ss = map (g i) cs in
       let o : decodedRow S outer i rs ≡ decodedRow S outer i ss = ap₂ (outer i) (a .same-symbols) (a .same-marks) in
-      subst (λ (x : RowAnswer). SameStates (d + e) (settle S outer i cs rs ls m (decodedRow S outer i rs)) (settle S outer i cs ss ls n x)) o
+      subst (λ (x : OuterAnswer). SameStates (d + e) (settle S outer i cs rs ls m (decodedRow S outer i rs)) (settle S outer i cs ss ls n x)) o
       (same-settling i d e cs ls m n rs ss h a (decodedRow S outer i rs))
 
 -- what is known of a state's columns

@@ -1,16 +1,21 @@
 -- What an answer is made of: at each level the row is the codeword in reach, and the totals of changed and erased columns are e and s of the outer rule. Assumes nothing.
+use mathlib.Core.Bool.{Bool}
 use mathlib.Core.List.{List, [], _∷_, _++_, map}
 use mathlib.Core.Logic.{⊎-elim}
 use mathlib.Core.Path.{_≡_, refl, sym, ap, _∙_, subst, subst⁻¹}
 use Prim.Native.Nat.{ℕ, zero, suc, _≤_, _<_}
 use native.Mathlib.Nat.{eq-or-lt-of-le, suc-inj, le-of-suc-le-suc}
+use native.Mathlib.Decide.{ℕ-discrete}
 use native.Mathlib.Omega.{arith}
 use lib.ListN.{length, length-map, length-append, getD, List·getD-append}
 use lib.Seq.{getD-at}
 use Rattle.column.specs.Shape.{Shape, levels}
+use Rattle.reedsolomon.specs.Words.{count, errors, InReach}
+use Rattle.reedsolomon.specs.Search.{OuterAnswer, Found, NoneInReach}
+use Rattle.reedsolomon.specs.Row
 use Rattle.concatenated.specs.Lists.{total}
 use Rattle.concatenated.specs.Format.{Format}
-use Rattle.concatenated.specs.Outer.{RowAnswer, row, none, RowDecoder, RowEncoder, OuterLaws, erasures, errors, InReach}
+use Rattle.concatenated.specs.Outer.{RowDecoder, RowEncoder, isIn, OuterLaws}
 use Rattle.concatenated.specs.Decode.{Reader, mark, marks, symbol, symbols, rowOff, Level, level, State, going, stopped, answered, refused, decodedRow, settle, onward, run, Reaches, outcome, decoded}
 use Rattle.concatenated.proofs.Counting.{changed-total-is-e, erased-total-is-s}
 use Rattle.concatenated.proofs.Columns.{row-off-length}
@@ -31,7 +36,7 @@ answered-inj ls ks m n e = cc
 pub record LevelOf (S : Shape) (outer : RowDecoder) (read : Reader) (page : List (List ℕ)) (i : ℕ) (l : Level) : Type 0 where
   pub columns : List (List ℕ)
   pub reached : Reaches S outer read page i columns
-  pub row-given : decodedRow S outer i (map (read i) columns) ≡ row (l .symbols)
+  pub row-given : decodedRow S outer i (map (read i) columns) ≡ Found (l .symbols)
   pub is-level : l ≡ level S i (map (read i) columns) (l .symbols)
 
 module _ (S : Shape) (outer : RowDecoder) (read : Reader) (page : List (List ℕ)) where
@@ -59,10 +64,10 @@ module _ (S : Shape) (outer : RowDecoder) (read : Reader) (page : List (List ℕ
       subst (LevelsBelow 0) (going-inj page cs [] ls 0 n e .1) (record { as-many = refl; each = λ i h d. absurd (omega arith) })
   run-gives-levels (suc k) cs ls n e = before (run-gives-levels k) (run S outer read page k) refl e
     where
-      after : RunGives k → (ds : List (List ℕ)) (ks : List Level) (m : ℕ) → run S outer read page k ≡ going ds ks m → (o : RowAnswer) → decodedRow S outer k (map (read k) ds) ≡ o
+      after : RunGives k → (ds : List (List ℕ)) (ks : List Level) (m : ℕ) → run S outer read page k ≡ going ds ks m → (o : OuterAnswer) → decodedRow S outer k (map (read k) ds) ≡ o
           → settle S outer k ds (map (read k) ds) ks m o ≡ going cs ls n → LevelsBelow (suc k) ls
-      after below ds ks m at none o f = stopped-is-not-going k cs ls n f
-      after below ds ks m at (row r) o f =
+      after below ds ks m at NoneInReach o f = stopped-is-not-going k cs ls n f
+      after below ds ks m at (Found r) o f =
           subst (LevelsBelow (suc k)) (going-inj _ cs _ ls _ n f .1)
           (one-more k ks (level S k (map (read k) ds) r) (below ds ks m at) (record { columns = ds; reached = (ks, m, at); row-given = o; is-level = refl }))
 
@@ -100,10 +105,10 @@ module _ (P : Format) (outer : RowDecoder) (encoded : RowEncoder) (Codeword : �
   reached-columns-are-all zero h cs at = ap length (sym (going-inj page cs [] (at .0) 0 (at .1) (at .2) .0)) ∙ wide
   reached-columns-are-all (suc k) h cs at = before (reached-columns-are-all k (omega arith)) (run S outer read page k) refl (at .2)
     where
-      after : AllColumns k → (ds : List (List ℕ)) (ks : List Level) (m : ℕ) → run S outer read page k ≡ going ds ks m → (o : RowAnswer) → decodedRow S outer k (map (read k) ds) ≡ o
+      after : AllColumns k → (ds : List (List ℕ)) (ks : List Level) (m : ℕ) → run S outer read page k ≡ going ds ks m → (o : OuterAnswer) → decodedRow S outer k (map (read k) ds) ≡ o
           → settle S outer k ds (map (read k) ds) ks m o ≡ going cs (at .0) (at .1) → length cs ≡ P .columns
-      after all ds ks m to none o f = stopped-is-not-going k cs (at .0) (at .1) f
-      after all ds ks m to (row r) o f =
+      after all ds ks m to NoneInReach o f = stopped-is-not-going k cs (at .0) (at .1) f
+      after all ds ks m to (Found r) o f =
           let before-all : length ds ≡ P .columns = all ds (ks, m, to) in
           let long = columns-long k ds before-all in
           let code = laws .given k (symbols S k (map (read k) ds)) (marks (map (read k) ds)) r (omega arith) (long .0) (long .1) o .0 in
@@ -113,13 +118,20 @@ module _ (P : Format) (outer : RowDecoder) (encoded : RowEncoder) (Codeword : �
       before all (stopped l) to f = stopped-is-not-going l cs (at .0) (at .1) f
       before all (going ds ks m) to f = after all ds ks m to (decodedRow S outer k (map (read k) ds)) refl f
 
+  -- the symbols and the erased columns that entered a level's row
+  abbrev symbolsOf : (i : ℕ) {l : Level} → LevelOf S outer read page i l → ℕ → ℕ
+  symbolsOf i of = Row.symbol (symbols S i (map (read i) (of .columns)))
+
+  abbrev erasedOf : (i : ℕ) {l : Level} → LevelOf S outer read page i l → ℕ → Bool
+  erasedOf i of = isIn (marks (map (read i) (of .columns)))
+
   -- what the outer rule says of a level: its row is the codeword in reach of the symbols and marks that entered, and the totals are its e and s
   pub record OuterRule (i : ℕ) (l : Level) : Type 0 where
     pub comes-from : LevelOf S outer read page i l
     pub is-codeword : Codeword i (l .symbols)
-    pub is-in-reach : InReach (P .columns) (P .roots i) (symbols S i (map (read i) (comes-from .columns))) (marks (map (read i) (comes-from .columns))) (l .symbols)
-    pub changed-is-e : total (l .changed) ≡ errors (P .columns) (symbols S i (map (read i) (comes-from .columns))) (marks (map (read i) (comes-from .columns))) (l .symbols)
-    pub erased-is-s : total (l .erased) ≡ erasures (P .columns) (marks (map (read i) (comes-from .columns)))
+    pub is-in-reach : InReach ℕ-discrete (erasedOf i comes-from) (P .columns) (P .roots i) (symbolsOf i comes-from) (Row.symbol (l .symbols))
+    pub changed-is-e : total (l .changed) ≡ errors ℕ-discrete (erasedOf i comes-from) (P .columns) (symbolsOf i comes-from) (Row.symbol (l .symbols))
+    pub erased-is-s : total (l .erased) ≡ count (erasedOf i comes-from) (P .columns)
 
   level-keeps-the-rule : (i : ℕ) (l : Level) → i < levels S → LevelOf S outer read page i l → OuterRule i l
   unfolding decodedRow level
@@ -137,8 +149,8 @@ module _ (P : Format) (outer : RowDecoder) (encoded : RowEncoder) (Codeword : �
         is-codeword = rule .0;
         is-in-reach = rule .1;
         changed-is-e =
-            ap (λ (k : Level). total (k .changed)) (of .is-level) ∙ changed-total-is-e xs ms c (long .1 ∙ sym (long .0)) (lc ∙ sym (long .0)) ∙ ap (λ (n : ℕ). errors n xs ms c) (long .0);
-        erased-is-s = ap (λ (k : Level). total (k .erased)) (of .is-level) ∙ erased-total-is-s ms ∙ ap (λ (n : ℕ). erasures n ms) (long .1);
+            ap (λ (k : Level). total (k .changed)) (of .is-level) ∙ changed-total-is-e xs ms c (long .1 ∙ sym (long .0)) (lc ∙ sym (long .0)) ∙ ap (λ (n : ℕ). errors ℕ-discrete (isIn ms) n (Row.symbol xs) (Row.symbol c)) (long .0);
+        erased-is-s = ap (λ (k : Level). total (k .erased)) (of .is-level) ∙ erased-total-is-s ms ∙ ap (count (isIn ms)) (long .1);
       }
 
   -- at each level of an answered page the number of changed columns is e, and of erased ones s

@@ -6,9 +6,10 @@ use native.Mathlib.Omega.{arith}
 use lib.ListN.{length, length-map, getD}
 use Rattle.column.specs.Shape.{Shape, levels}
 use Rattle.column.specs.Level.{reimaged}
+use Rattle.reedsolomon.specs.Search.{Found}
 use Rattle.concatenated.specs.Lists.{All, total, listed}
 use Rattle.concatenated.specs.Format.{Format}
-use Rattle.concatenated.specs.Outer.{row, RowDecoder, RowEncoder, OuterLaws}
+use Rattle.concatenated.specs.Outer.{RowDecoder, RowEncoder, OuterLaws}
 use Rattle.concatenated.specs.Decode.{Reading, Reader, mark, marks, symbol, symbols, steps, rowOff, Level, level, going, answered, decodedRow, settle, onward, run, Reaches, outcome, decoded, rows}
 use Rattle.concatenated.specs.Written.{rowAt, writtenSum}
 use Rattle.concatenated.specs.Misread.{misread, unread, WithinReach}
@@ -18,7 +19,7 @@ use Rattle.concatenated.proofs.Columns.{row-length, rows-more, cleared,
 
 -- a level whose row is known
 pub level-with-row : (S : Shape) (outer : RowDecoder) (read : Reader) (page : List (List ℕ)) (i : ℕ) (cs : List (List ℕ)) (ls : List Level) (n : ℕ) (r : List ℕ)
-    → run S outer read page i ≡ going cs ls n → decodedRow S outer i (map (read i) cs) ≡ row r
+    → run S outer read page i ≡ going cs ls n → decodedRow S outer i (map (read i) cs) ≡ Found r
     → run S outer read page (suc i) ≡ going (rowOff S i r cs) (ls ++ (level S i (map (read i) cs) r ∷ [])) (n + steps (map (read i) cs))
 unfolding run onward settle
 level-with-row S outer read page i cs ls n r e o = ap (onward S outer read i) e ∙ ap (settle S outer i cs (map (read i) cs) ls n) o
@@ -58,7 +59,7 @@ module _ (P : Format) (outer : RowDecoder) (encoded : RowEncoder) (Codeword : �
       → 2 * total (misread S i ws (readings S read ws page i)) + total (unread (readings S read ws page i)) ≤ P .roots i
 
   -- there the written row is given
-  row-is-written : TrueWithinReach → (i : ℕ) → i < levels S → Reaches S outer read page i (cleared S ws page i) → decodedRow S outer i (readings S read ws page i) ≡ row (rowAt i ws)
+  row-is-written : TrueWithinReach → (i : ℕ) → i < levels S → Reaches S outer read page i (cleared S ws page i) → decodedRow S outer i (readings S read ws page i) ≡ Found (rowAt i ws)
   unfolding decodedRow
   row-is-written within i h at =
       let cs = cleared S ws page i in

@@ -6,9 +6,10 @@ use Prim.Native.Nat.{ℕ, zero, suc, _+_}
 use lib.Dec.{eqb}
 use Rattle.column.specs.Shape.{Shape, levels}
 use Rattle.column.specs.Level.{levelWord, reimaged}
+use Rattle.reedsolomon.specs.Search.{OuterAnswer, Found, NoneInReach}
 use Rattle.concatenated.specs.Lists.{sum}
 use Rattle.concatenated.specs.SoftPage.{columnOff}
-use Rattle.concatenated.specs.Outer.{RowAnswer, row, none, RowDecoder}
+use Rattle.concatenated.specs.Outer.{RowDecoder}
 
 -- what the search of a column gives: a word with its count, or only its count
 pub data Reading : Type 0 where
@@ -77,12 +78,12 @@ pub data Decoded : Type 0 where
 
 module _ (S : Shape) (outer : RowDecoder) where
   -- 01: "The row is decoded"
-  unfoldable pub decodedRow : ℕ → List Reading → RowAnswer
+  unfoldable pub decodedRow : ℕ → List Reading → OuterAnswer
   decodedRow i rs = outer i (symbols S i rs) (marks rs)
 
-  unfoldable pub settle : ℕ → List (List ℕ) → List Reading → List Level → ℕ → RowAnswer → State
-  settle i cs rs ls n none = stopped i
-  settle i cs rs ls n (row r) = going (rowOff S i r cs) (ls ++ (level S i rs r ∷ [])) (n + steps rs)
+  unfoldable pub settle : ℕ → List (List ℕ) → List Reading → List Level → ℕ → OuterAnswer → State
+  settle i cs rs ls n NoneInReach = stopped i
+  settle i cs rs ls n (Found r) = going (rowOff S i r cs) (ls ++ (level S i rs r ∷ [])) (n + steps rs)
 
   module _ (read : Reader) where
     -- a level: "Each column is searched, re-imaged and marked", the row decoded and taken off

@@ -3,19 +3,14 @@ use mathlib.Core.List.{List, map}
 use mathlib.Core.Path.{_≡_}
 use Prim.Native.Nat.{ℕ, _<_}
 use lib.ListN.{length, getD}
-use Rattle.reedsolomon.specs.Search.{Answer, Found, NoneInReach}
 use Rattle.reedsolomon.specs.Row.{IsCodeword, outerAnswer, encodedRow}
 use Rattle.concatenated.specs.Format.{shortRoots}
-use Rattle.concatenated.specs.Outer.{RowAnswer, row, none, RowDecoder, RowEncoder}
+use Rattle.concatenated.specs.Outer.{RowDecoder, RowEncoder}
 use Rattle.concatenated.specs.Flags.{flag}
-
-unfoldable pub asRow : Answer → RowAnswer
-asRow (Found c) = row c
-asRow NoneInReach = none
 
 -- 01: "Outer decoding takes 63 symbols and 63 marks", T by the level
 unfoldable pub shortOuter : RowDecoder
-shortOuter i xs ms = asRow (outerAnswer 6 67 63 (shortRoots i) xs (map flag ms))
+shortOuter i xs ms = outerAnswer 6 67 63 (shortRoots i) xs (map flag ms)
 
 unfoldable pub shortEncoder : RowEncoder
 shortEncoder i d = encodedRow 6 67 63 (shortRoots i) d

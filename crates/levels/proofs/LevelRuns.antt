@@ -12,7 +12,7 @@ use lib.ListN.{length, length-set, length-map, getD, take, set, List·getD-eq-de
 use lib.Seq.{take-suc-set, take-all, getD-set-same, getD-set-other}
 use Rattle.poly.proofs.Sum.{lt-or-le}
 use Rattle.column.specs.Shape.{short}
-use Rattle.concatenated.specs.Outer.{RowAnswer, row, none}
+use Rattle.reedsolomon.specs.Search.{OuterAnswer, Found, NoneInReach}
 use Rattle.concatenated.specs.Decode.{Reader, symbol, symbols, mark, marks, changed, decodedRow, Level, level, State, going, stopped, settle, onward, run, outcome, decoded, rows}
 use Rattle.concatenated.specs.Flags.{flag}
 use Rattle.concatenated.specs.Arrays.{SoftColumns, Rows}
@@ -22,7 +22,7 @@ use Rattle.levels.specs.declared.LevelOut.{LevelOut}
 use Rattle.levels.specs.declared.ColumnsOutcome.the-variants.{Answered, Refused}
 use Rattle.concatenated.proofs.Lists.{map-append}
 use Rattle.concatenated.proofs.Entries.{changed-length}
-use Rattle.concatenated.proofs.OuterJoint.{outer-laws}
+use Rattle.levels.proofs.LevelSteps.{row-is-a-word}
 
 -- tests of what is not so
 pub not-so : (b : Bool) → not b ≡ true → b ≡ false
@@ -72,16 +72,12 @@ stays read page i l e (suc k) =
 
 module _ (read : Reader) (page work held changes erased : List (List ℕ)) (sum i : ℕ) (f : Decoding read page work held changes erased sum i) (h : i < 4) (out : LevelOut)
     (after : List (List ℕ)) (done : LevelDone read i work out after) where
-  onwards : (o : RowAnswer) → decodedRow short shortOuter i (map (read i) work) ≡ o → run short shortOuter read page (suc i) ≡ settle short shortOuter i work (map (read i) work) (f .levels) sum o
+  onwards : (o : OuterAnswer) → decodedRow short shortOuter i (map (read i) work) ≡ o → run short shortOuter read page (suc i) ≡ settle short shortOuter i work (map (read i) work) (f .levels) sum o
   unfolding run onward
   onwards o e = ap (onward short shortOuter read i) (f .so-far) ∙ ap (settle short shortOuter i work (map (read i) work) (f .levels) sum) e
 
-  row-is-word : (r : List ℕ) → decodedRow short shortOuter i (map (read i) work) ≡ row r → RowWord r
-  unfolding decodedRow
-  row-is-word r e =
-      let rs = map (read i) work in
-      let long : length rs ≡ 63 = length-map work (read i) ∙ f .soft .many in
-      outer-laws .given i (symbols short i rs) (marks rs) r h (length-map rs (symbol short i) ∙ long) (length-map rs mark ∙ long) e .0 .word
+  word : (r : List ℕ) → decodedRow short shortOuter i (map (read i) work) ≡ Found r → RowWord r
+  word r e = row-is-a-word i h (map (read i) work) (length-map work (read i) ∙ f .soft .many) r e
 
   wide : (r : List ℕ) → length r ≡ 63 → length (map flag (changed (symbols short i (map (read i) work)) (marks (map (read i) work)) r)) ≡ 63
   wide r e =
@@ -95,10 +91,10 @@ module _ (read : Reader) (page work held changes erased : List (List ℕ)) (sum 
   unfolding LevelDone level settle
   decoding-more ok few soft = go (decodedRow short shortOuter i (map (read i) work)) refl done
     where
-      go : (o : RowAnswer) → decodedRow short shortOuter i (map (read i) work) ≡ o → Ended o i (map (read i) work) work out after
+      go : (o : OuterAnswer) → decodedRow short shortOuter i (map (read i) work) ≡ o → Ended o i (map (read i) work) work out after
           → Decoding read page after (set held i (out .row)) (set changes i (out .changed)) (set erased i (out .erased)) (sum + out .count) (i + 1)
-      go none e d = absurd (true≢false (sym ok ∙ d))
-      go (row r) e d =
+      go NoneInReach e d = absurd (true≢false (sym ok ∙ d))
+      go (Found r) e d =
           let l = level short i (map (read i) work) r in
           record {
             within = omega arith;
@@ -108,13 +104,13 @@ module _ (read : Reader) (page work held changes erased : List (List ℕ)) (sum 
             long-erased = length-set erased i (out .erased) ∙ f .long-erased;
             levels = f .levels ++ (l ∷ []);
             so-far =
-                ap (run short shortOuter read page) (add-one i) ∙ onwards (row r) e
+                ap (run short shortOuter read page) (add-one i) ∙ onwards (Found r) e
                 ∙ ap₂ (λ (cs : List (List ℕ)) (n : ℕ). going cs (f .levels ++ (l ∷ [])) (sum + n)) (sym (d .5)) (sym (d .4));
             rows-so = held-more (λ x. x .symbols) held (f .levels) i (out .row) l (omega (arith, f .long-held)) (f .rows-so) (d .1);
             changes-so = held-more (λ x. map flag (x .changed)) changes (f .levels) i (out .changed) l (omega (arith, f .long-changes)) (f .changes-so) (d .2);
             erased-so = held-more (λ x. map flag (x .erased)) erased (f .levels) i (out .erased) l (omega (arith, f .long-erased)) (f .erased-so) (d .3);
-            words = each-more RowWord held i (out .row) (omega (arith, f .long-held)) (f .words) (subst⁻¹ RowWord (d .1) (row-is-word r e));
-            changes-wide = each-more (λ s. length s ≡ 63) changes i (out .changed) (omega (arith, f .long-changes)) (f .changes-wide) (ap length (d .2) ∙ wide r (row-is-word r e .long));
+            words = each-more RowWord held i (out .row) (omega (arith, f .long-held)) (f .words) (subst⁻¹ RowWord (d .1) (word r e));
+            changes-wide = each-more (λ s. length s ≡ 63) changes i (out .changed) (omega (arith, f .long-changes)) (f .changes-wide) (ap length (d .2) ∙ wide r (word r e .long));
             erased-wide = each-more (λ s. length s ≡ 63) erased i (out .erased) (omega (arith, f .long-erased)) (f .erased-wide) (ap length (d .3) ∙ length-map (marks (map (read i) work)) flag ∙ length-map (map (read i) work) mark ∙ length-map work (read i) ∙ f .soft .many);
             few = omega (arith, f .few, few);
           }
@@ -123,9 +119,9 @@ module _ (read : Reader) (page work held changes erased : List (List ℕ)) (sum 
   unfolding LevelDone settle
   stop z = go (decodedRow short shortOuter i (map (read i) work)) refl done
     where
-      go : (o : RowAnswer) → decodedRow short shortOuter i (map (read i) work) ≡ o → Ended o i (map (read i) work) work out after → run short shortOuter read page (suc i) ≡ stopped i
-      go none e d = onwards none e
-      go (row r) e d = absurd (true≢false (sym (d .0) ∙ z))
+      go : (o : OuterAnswer) → decodedRow short shortOuter i (map (read i) work) ≡ o → Ended o i (map (read i) work) work out after → run short shortOuter read page (suc i) ≡ stopped i
+      go NoneInReach e d = onwards NoneInReach e
+      go (Found r) e d = absurd (true≢false (sym (d .0) ∙ z))
 
   pub decoding-refused : out .settled ≡ false → (held′ changes′ erased′ : List (List ℕ)) → ColumnsDone read page (Refused i) held′ changes′ erased′
   unfolding ColumnsDone decoded outcome

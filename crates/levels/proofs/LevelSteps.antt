@@ -11,19 +11,18 @@ use Rattle.column.specs.Shape.{short}
 use Rattle.trellis.specs.Values.{values}
 use Rattle.trellis.specs.Demand.{Search as Kind}
 use Rattle.trellis.proofs.Short.{searchable}
-use Rattle.reedsolomon.specs.Search.{Answer, Found, NoneInReach}
+use Rattle.reedsolomon.specs.Search.{OuterAnswer, Found, NoneInReach}
 use Rattle.reedsolomon.specs.Row.{outerAnswer, wordOf, isFound}
 use Rattle.reedsolomon.specs.Row
 use Rattle.concatenated.specs.Lists.{All}
 use Rattle.concatenated.specs.Format.{shortRoots}
 use Rattle.concatenated.specs.SoftPage.{Soft}
-use Rattle.concatenated.specs.Outer.{RowAnswer, row, none}
 use Rattle.concatenated.specs.Decode.{Reading, symbol, symbols, mark, marks, changed, rowOff, decodedRow}
 use Rattle.concatenated.specs.Readers.{shortReader}
 use Rattle.concatenated.specs.Flags.{flag, isOne}
 use Rattle.concatenated.specs.Arrays.{SoftColumns}
 use Rattle.readings.specs.Steps.{RowRead}
-use Rattle.concatenated.specs.OuterCode.{asRow, shortOuter, RowWord}
+use Rattle.concatenated.specs.OuterCode.{shortOuter, RowWord}
 use Rattle.levels.specs.Levels.{Ended}
 use Rattle.levels.specs.declared.LevelOut.{LevelOut}
 use Rattle.concatenated.proofs.Lists.{all-at}
@@ -49,6 +48,12 @@ pub read-small : (kind : Kind) (limit i : ℕ) → i < 4 → (work : List (List 
 read-small kind limit i h work xs ms n read =
     subst⁻¹ (λ (t : List ℕ). (j : ℕ) → getD t j 0 < 64) (read .symbols-are) (all-small (symbols short i (map (shortReader kind limit i) work)) (symbols-in-range short i (searchable i h) (λ k. values) limit kind work))
 
+-- the row of a level is a word of 63 symbols
+pub row-is-a-word : (i : ℕ) → i < 4 → (rs : List Reading) → length rs ≡ 63 → (r : List ℕ) → decodedRow short shortOuter i rs ≡ Found r → RowWord r
+unfolding decodedRow
+row-is-a-word i h rs long r e =
+    outer-laws .given i (symbols short i rs) (marks rs) r h (length-map rs (symbol short i) ∙ long) (length-map rs mark ∙ long) e .0 .word
+
 -- taking a row's words off keeps columns soft
 pub soft-off : (i : ℕ) (r : List ℕ) (work after : List (List ℕ)) → length r ≡ 63 → SoftColumns work → after ≡ rowOff short i r work → SoftColumns after
 soft-off i r work after long s e =
@@ -61,42 +66,39 @@ soft-off i r work after long s e =
 module _ (i : ℕ) (h : i < 4) (rs : List Reading) (long : length rs ≡ 63) (xs ms : List ℕ) (n : ℕ) (read : RowRead i rs xs ms n) (t : ℕ) (et : t ≡ shortRoots i) (settled : Bool) (old new : List ℕ)
     (given : Row.Decoded (outerAnswer 6 67 63 t xs ms) settled old new) where
   -- the row of a level is the outer code's answer on what was read
-  row-is : decodedRow short shortOuter i rs ≡ asRow (outerAnswer 6 67 63 t xs ms)
+  row-is : decodedRow short shortOuter i rs ≡ outerAnswer 6 67 63 t xs ms
   unfolding decodedRow shortOuter
   row-is =
-      ap₂ (λ (x m : List ℕ). asRow (outerAnswer 6 67 63 (shortRoots i) x m)) (sym (read .symbols-are)) (sym (read .marks-are))
-      ∙ ap (λ (k : ℕ). asRow (outerAnswer 6 67 63 k xs ms)) (sym et)
+      ap₂ (λ (x m : List ℕ). outerAnswer 6 67 63 (shortRoots i) x m) (sym (read .symbols-are)) (sym (read .marks-are))
+      ∙ ap (λ (k : ℕ). outerAnswer 6 67 63 k xs ms) (sym et)
 
-  pub no-row : settled ≡ false → decodedRow short shortOuter i rs ≡ none
-  unfolding asRow isFound
+  pub no-row : settled ≡ false → decodedRow short shortOuter i rs ≡ NoneInReach
+  unfolding isFound
   no-row e = row-is ∙ go (outerAnswer 6 67 63 t xs ms) (sym e ∙ given .told)
     where
-      go : (a : Answer) → false ≡ isFound a → asRow a ≡ none
+      go : (a : OuterAnswer) → false ≡ isFound a → a ≡ NoneInReach
       go (Found c) f = absurd (true≢false (sym f))
       go NoneInReach f = refl
 
-  pub is-row : settled ≡ true → decodedRow short shortOuter i rs ≡ row new
-  unfolding asRow isFound wordOf
+  pub is-row : settled ≡ true → decodedRow short shortOuter i rs ≡ Found new
+  unfolding isFound wordOf
   is-row e = row-is ∙ go (outerAnswer 6 67 63 t xs ms) (sym e ∙ given .told) (given .written)
     where
-      go : (a : Answer) → true ≡ isFound a → new ≡ wordOf old a → asRow a ≡ row new
-      go (Found c) f w = ap row (sym w)
+      go : (a : OuterAnswer) → true ≡ isFound a → new ≡ wordOf old a → a ≡ Found new
+      go (Found c) f w = ap Found (sym w)
       go NoneInReach f w = absurd (true≢false f)
 
-  -- it is a word of 63 symbols
-  pub row-is-a-word : settled ≡ true → RowWord new
-  unfolding decodedRow
-  row-is-a-word e =
-      outer-laws .given i (symbols short i rs) (marks rs) new h (length-map rs (symbol short i) ∙ long) (length-map rs mark ∙ long) (is-row e) .0 .word
+  pub settled-row-is-a-word : settled ≡ true → RowWord new
+  settled-row-is-a-word e = row-is-a-word i h rs long new (is-row e)
 
   -- a level with no row, and one with a row
   pub level-refused : settled ≡ false → (work after : List (List ℕ)) (out : LevelOut) → out .settled ≡ false → Ended (decodedRow short shortOuter i rs) i rs work out after
-  level-refused e work after out f = subst⁻¹ (λ (o : RowAnswer). Ended o i rs work out after) (no-row e) f
+  level-refused e work after out f = subst⁻¹ (λ (o : OuterAnswer). Ended o i rs work out after) (no-row e) f
 
   pub level-settled : settled ≡ true → (work after : List (List ℕ)) (out : LevelOut) → out .settled ≡ true → out .row ≡ new → out .changed ≡ map flag (changed xs (map isOne ms) new) → out .erased ≡ ms
       → out .count ≡ n → after ≡ rowOff short i new work → Ended (decodedRow short shortOuter i rs) i rs work out after
   level-settled e work after out e0 e1 e2 e3 e4 e5 =
-      subst⁻¹ (λ (o : RowAnswer). Ended o i rs work out after) (is-row e) (
+      subst⁻¹ (λ (o : OuterAnswer). Ended o i rs work out after) (is-row e) (
         e0,
         e1,
         e2 ∙ ap₂ (λ (x : List ℕ) (m : List Bool). map flag (changed x m new)) (read .symbols-are) (ap (map isOne) (read .marks-are) ∙ flags-back (marks rs)),

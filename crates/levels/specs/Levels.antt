@@ -7,16 +7,16 @@ use Rattle.column.specs.Shape.{short}
 use Rattle.levels.specs.declared.LevelOut.{LevelOut}
 use Rattle.levels.specs.declared.ColumnsOutcome.{ColumnsOutcome}
 use Rattle.levels.specs.declared.ColumnsOutcome.the-variants.{Answered, Refused}
-use Rattle.concatenated.specs.Outer.{RowAnswer, row, none}
+use Rattle.reedsolomon.specs.Search.{OuterAnswer, Found, NoneInReach}
 use Rattle.concatenated.specs.Decode.{Reading, Reader, symbols, marks, steps, changed, rowOff, decodedRow, Level, rows, Decoded, answered, refused, decoded}
 use Rattle.concatenated.specs.Flags.{flag}
 use Rattle.concatenated.specs.Arrays.{Rows, FourSets}
 use Rattle.concatenated.specs.OuterCode.{shortOuter}
 
 -- what a level leaves, by what outer decoding gives: its outcome, and the columns after it
-abbrev pub Ended : RowAnswer → ℕ → List Reading → List (List ℕ) → LevelOut → List (List ℕ) → Type 0
-Ended none i rs work out after = out .settled ≡ false
-Ended (row r) i rs work out after =
+abbrev pub Ended : OuterAnswer → ℕ → List Reading → List (List ℕ) → LevelOut → List (List ℕ) → Type 0
+Ended NoneInReach i rs work out after = out .settled ≡ false
+Ended (Found r) i rs work out after =
     (out .settled ≡ true) × (out .row ≡ r) × (out .changed ≡ map flag (changed (symbols short i rs) (marks rs) r)) × (out .erased ≡ map flag (marks rs)) × (out .count ≡ steps rs)
     × (after ≡ rowOff short i r work)
 

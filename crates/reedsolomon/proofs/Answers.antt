@@ -14,9 +14,9 @@ use Rattle.field.specs.Laws.{Field}
 use Rattle.field.proofs.Ring
 use Rattle.field.proofs.Powers.{is-field, power-order}
 use Rattle.reedsolomon.specs.Sums.{power}
-use Rattle.reedsolomon.specs.Words.{OrderAtLeast, Codeword}
+use Rattle.reedsolomon.specs.Words.{OrderAtLeast, Codeword, InReach}
 use Rattle.reedsolomon.specs.Search.{words, Found, NoneInReach}
-use Rattle.reedsolomon.specs.Row.{symbol, marked, IsCodeword, InReachOf, outerAnswer, HasInFront, wordOf, encodedRow}
+use Rattle.reedsolomon.specs.Row.{symbol, marked, IsCodeword, outerAnswer, HasInFront, wordOf, encodedRow}
 use Rattle.reedsolomon.proofs.Finding.{WordOf, words-have-all, words-are-words, first-has-it, none-has-it, only-one-is-found, nothing-is-found, first-of-equivalent}
 use Rattle.reedsolomon.proofs.Reach.{at-most-one-codeword-in-reach, erased-symbols-have-no-influence}
 use Rattle.reedsolomon.proofs.Encoding.{data-determine-the-codeword}
@@ -30,7 +30,7 @@ same-power m g a (suc k) = ap (mul m g a) (same-power m g a k)
 -- what an erased column holds has no influence on the answer
 pub erased-symbols-do-not-change-the-answer : (m g N T : ℕ) (w v marks : List ℕ) → ((j : ℕ) → j < N → marked marks j ≡ false → symbol w j ≡ symbol v j)
     → outerAnswer m g N T w marks ≡ outerAnswer m g N T v marks
-unfolding outerAnswer InReachOf
+unfolding outerAnswer
 erased-symbols-do-not-change-the-answer m g N T w v marks h =
     first-of-equivalent _ _ _ _
     (λ c. let r = erased-symbols-have-no-influence ℕ-discrete (marked marks) N T (symbol w) (symbol v) (symbol c) h in ((λ p. (p .0, r .0 (p .1))), λ p. (p .0, r .1 (p .1))))
@@ -55,10 +55,10 @@ module _ (m g N T : ℕ) (t : Primitive m g) (few : N < 2 ^ m) where
   module _ (w marks : List ℕ) where
     -- a codeword in reach
     abbrev pub Right : List ℕ → Type 0
-    Right c = IsCodeword m g N T c × InReachOf N T w marks c
+    Right c = IsCodeword m g N T c × InReach ℕ-discrete (marked marks) N T (symbol w) (symbol c)
 
     pub at-most-one-in-reach : (c d : List ℕ) → WordOf (2 ^ m) N c → WordOf (2 ^ m) N d → Right c → Right d → c ≡ d
-    unfolding IsCodeword InReachOf
+    unfolding IsCodeword
     at-most-one-in-reach c d hc hd p q =
         ext-getD 0 c d (hc .0 ∙ sym (hd .0))
         (λ j l. at-most-one-codeword-in-reach K ℕ-discrete α N T order (marked marks) (symbol w) (symbol c) (symbol d) (hc .1) (hd .1) (p .0) (q .0) (p .1) (q .1) j

@@ -9,8 +9,8 @@ use lib.ListN.{length, replicate}
 use Rattle.poly.specs.Polynomial.{add}
 use Rattle.field.specs.Element.{mul, α, Primitive}
 use Rattle.reedsolomon.specs.Words.{Codeword, count, errors, InReach}
-use Rattle.reedsolomon.specs.Search.{Answer, Found, NoneInReach}
-use Rattle.reedsolomon.specs.Row.{symbol, Symbols, marked, IsCodeword, InReachOf, outerAnswer, isFound, wordOf, Decoded}
+use Rattle.reedsolomon.specs.Search.{OuterAnswer, Found, NoneInReach}
+use Rattle.reedsolomon.specs.Row.{symbol, Symbols, marked, IsCodeword, outerAnswer, isFound, wordOf, Decoded}
 use Rattle.reedsolomon.specs.Steps.{WrittenAt, Padded, HasSyndromes, IsCorrection}
 use Rattle.reedsolomon.proofs.Reach.{reach-of-equals, reach-bounds-erasures}
 use Rattle.reedsolomon.proofs.Syndromes.{codeword-of-equals}
@@ -22,11 +22,11 @@ use Rattle.reedsolomon.proofs.Remainders.{zeros-at}
 at-front : {N : ℕ} {f : ℕ → ℕ} {old new : List ℕ} → WrittenAt 0 N f old new → (j : ℕ) → j < N → symbol new j ≡ f j
 at-front {N} {f} {old} {new} w j l = let e : 0 + j ≡ j = omega arith in ap (symbol new) (sym e) ∙ w .written j l
 
-pub decoded-found : (a : Answer) (old new : List ℕ) → a ≡ Found new → Decoded a true old new
+pub decoded-found : (a : OuterAnswer) (old new : List ℕ) → a ≡ Found new → Decoded a true old new
 unfolding isFound wordOf
 decoded-found a old new e = record { told = sym (ap isFound e); written = sym (ap (wordOf old) e) }
 
-pub decoded-none : (a : Answer) (old : List ℕ) → a ≡ NoneInReach → Decoded a false old old
+pub decoded-none : (a : OuterAnswer) (old : List ℕ) → a ≡ NoneInReach → Decoded a false old old
 unfolding isFound wordOf
 decoded-none a old e = record { told = sym (ap isFound e); written = sym (ap (wordOf old) e) }
 
@@ -45,7 +45,7 @@ padded-row m N n symbols w long h f pos =
     behind j l = f .after j (omega arith) ∙ zeros-at n j
 
 module _ (m g N T : ℕ) (t : Primitive m g) (few : N < 2 ^ m) (w marks : List ℕ) where
-  abbrev answer : Answer
+  abbrev answer : OuterAnswer
   answer = outerAnswer m g N T w marks
 
   pub codeword-by-syndromes : (v s : List ℕ) → HasSyndromes m g N T v s → ((i : ℕ) → i < T → symbol s i ≡ 0) → Codeword add (mul m g) 0 1 α N T (symbol v)
@@ -55,7 +55,6 @@ module _ (m g N T : ℕ) (t : Primitive m g) (few : N < 2 ^ m) (w marks : List �
   syndromes-by-codeword v s h c i l = h .syndromes i l ∙ c i l
 
   pub too-many-erased : T < count (marked marks) N → answer ≡ NoneInReach
-  unfolding InReachOf
   too-many-erased h =
       none-if m g N T t few w marks
       (λ c hc p. let z : count (marked marks) N ≤ T = reach-bounds-erasures ℕ-discrete (marked marks) N T (symbol w) (symbol c) (p .1) in absurd (omega arith))
@@ -64,7 +63,7 @@ module _ (m g N T : ℕ) (t : Primitive m g) (few : N < 2 ^ m) (w marks : List �
   pub check-is-passed : (v old new : List ℕ) → Padded m N v → Codeword add (mul m g) 0 1 α N T (symbol v)
       → 2 * errors ℕ-discrete (marked marks) N (symbol w) (symbol v) + count (marked marks) N ≤ T
       → length new ≡ N → WrittenAt 0 N (symbol v) old new → answer ≡ Found new
-  unfolding IsCodeword InReachOf InReach
+  unfolding IsCodeword InReach
   check-is-passed v old new p code reach long f =
       answer-if m g N T t few w marks new (long, λ j l. subst (λ (x : ℕ). x < 2 ^ m) (sym (same j l)) (p .inside j)) (
         codeword-of-equals (K m g N T t few) α N T (symbol new) (symbol v) same code,
@@ -82,7 +81,7 @@ module _ (m g N T : ℕ) (t : Primitive m g) (few : N < 2 ^ m) (w marks : List �
 
   pub check-is-failed : (v : List ℕ) → Padded m N w → IsCorrection m g N T marks w v
       → (Codeword add (mul m g) 0 1 α N T (symbol v) → 2 * errors ℕ-discrete (marked marks) N (symbol w) (symbol v) + count (marked marks) N ≤ T → ⊥) → answer ≡ NoneInReach
-  unfolding IsCodeword InReachOf InReach
+  unfolding IsCodeword InReach
   check-is-failed v p c failed =
       none-if m g N T t few w marks
       (λ d hd q. failed-check-means-none-in-reach (K m g N T t few) ℕ-discrete α N T (order m g N T t few) (marked marks) (symbol w) (λ j l. p .inside j)

@@ -6,7 +6,7 @@ use Prim.Native.Nat.{ℕ, zero, suc, _<_}
 use native.Mathlib.Nat.{not-suc-le-zero, le-of-suc-le-suc, eq-or-lt-of-le, suc-inj, lt-suc-self, le-trans, le-suc, zero-lt-suc}
 use native.Mathlib.Omega.{arith}
 use lib.ListN.{length, getD}
-use Rattle.reedsolomon.specs.Search.{inFront, longer, words, first, Answer, Found, NoneInReach}
+use Rattle.reedsolomon.specs.Search.{inFront, longer, words, first, OuterAnswer, Found, NoneInReach}
 
 -- c is a word of n symbols below q
 abbrev pub WordOf : ℕ → ℕ → List ℕ → Type 0
@@ -70,7 +70,7 @@ words-are-words q (suc n) c m =
     symbols a w l h zero u = l
     symbols a w l h (suc j) u = h j (le-of-suc-le-suc u)
 
-pub answer-cases : (a : Answer) → ((c : List ℕ) × (a ≡ Found c)) ⊎ (a ≡ NoneInReach)
+pub answer-cases : (a : OuterAnswer) → ((c : List ℕ) × (a ≡ Found c)) ⊎ (a ≡ NoneInReach)
 answer-cases (Found c) = inl (c, refl)
 answer-cases NoneInReach = inr refl
 
@@ -109,7 +109,7 @@ first-of-equivalent P Q p q h [] = refl
 first-of-equivalent P Q p q h (w ∷ ws) = go (p w) (q w) (first-of-equivalent P Q p q h ws)
   where
     go : (d : Dec (P w)) (e : Dec (Q w)) → first P p ws ≡ first Q q ws
-        → _≡_ {A = Answer} (elim d [ yes x ↦ Found w | no x ↦ first P p ws ]) (elim e [ yes x ↦ Found w | no x ↦ first Q q ws ])
+        → _≡_ {A = OuterAnswer} (elim d [ yes x ↦ Found w | no x ↦ first P p ws ]) (elim e [ yes x ↦ Found w | no x ↦ first Q q ws ])
     go (yes x) (yes y) later = refl
     go (yes x) (no y) later = absurd (y (h w .0 x))
     go (no x) (yes y) later = absurd (x (h w .1 y))

@@ -9,7 +9,7 @@ use lib.ListN.{getD}
 use Rattle.poly.specs.Polynomial.{add}
 use Rattle.field.specs.Element.{mul, α}
 use Rattle.reedsolomon.specs.Words.{syndrome, Codeword, InReach}
-use Rattle.reedsolomon.specs.Search.{words, first, both?, all?, Answer, Found, NoneInReach}
+use Rattle.reedsolomon.specs.Search.{words, first, both?, all?, OuterAnswer, Found, NoneInReach}
 
 -- symbol j of a word
 abbrev pub symbol : List ℕ → ℕ → ℕ
@@ -27,22 +27,18 @@ marked marks j = eqb (symbol marks j) 1
 unfoldable pub IsCodeword : (m g N T : ℕ) → List ℕ → Type 0
 IsCodeword m g N T c = Codeword add (mul m g) 0 1 α N T (symbol c)
 
--- 01: "2·e + s ≤ T, s being the erased columns and e the other columns that differ"
-unfoldable pub InReachOf : (N T : ℕ) → List ℕ → List ℕ → List ℕ → Type 0
-InReachOf N T w marks c = InReach ℕ-discrete (marked marks) N T (symbol w) (symbol c)
-
 pub codeword? : (m g N T : ℕ) (c : List ℕ) → Dec (IsCodeword m g N T c)
 unfolding IsCodeword
 codeword? m g N T c = all? (λ i. ℕ-discrete (syndrome add (mul m g) 0 1 α N (symbol c) i) 0) T
 
-pub inReach? : (N T : ℕ) (w marks c : List ℕ) → Dec (InReachOf N T w marks c)
-unfolding InReachOf InReach
-inReach? N T w marks c = decLe _ T
+pub inReach? : (E : ℕ → Bool) (N T : ℕ) (w c : List ℕ) → Dec (InReach ℕ-discrete E N T (symbol w) (symbol c))
+unfolding InReach
+inReach? E N T w c = decLe _ T
 
--- 01: "Outer decoding takes 63 symbols and 63 marks. It gives the codeword with 2·e + s ≤ T"
-unfoldable pub outerAnswer : (m g N T : ℕ) → List ℕ → List ℕ → Answer
+-- 01: "Outer decoding takes 63 symbols and 63 marks. It gives the codeword with 2·e + s ≤ T, s being the erased columns and e the other columns that differ"
+unfoldable pub outerAnswer : (m g N T : ℕ) → List ℕ → List ℕ → OuterAnswer
 outerAnswer m g N T w marks =
-    first (λ c. IsCodeword m g N T c × InReachOf N T w marks c) (λ c. both? (codeword? m g N T c) (inReach? N T w marks c)) (words (2 ^ m) N)
+    first (λ c. IsCodeword m g N T c × InReach ℕ-discrete (marked marks) N T (symbol w) (symbol c)) (λ c. both? (codeword? m g N T c) (inReach? (marked marks) N T w c)) (words (2 ^ m) N)
 
 -- 01: "The first 33, 51, 57, 59 columns hold data"
 unfoldable pub HasInFront : (N T : ℕ) → List ℕ → List ℕ → Type 0
@@ -53,11 +49,11 @@ unfolding HasInFront
 hasInFront? N T d c = all? (λ j. ℕ-discrete (symbol c j) (symbol d j)) (N - T)
 
 -- the word of an answer; old where there is none
-unfoldable pub wordOf : List ℕ → Answer → List ℕ
+unfoldable pub wordOf : List ℕ → OuterAnswer → List ℕ
 wordOf old (Found c) = c
 wordOf old NoneInReach = old
 
-unfoldable pub isFound : Answer → Bool
+unfoldable pub isFound : OuterAnswer → Bool
 isFound (Found c) = true
 isFound NoneInReach = false
 
@@ -67,6 +63,6 @@ encodedRow m g N T d =
     wordOf [] (first (λ c. IsCodeword m g N T c × HasInFront N T d c) (λ c. both? (codeword? m g N T c) (hasInFront? N T d c)) (words (2 ^ m) N))
 
 -- What decoding gives: whether a word was found, and the word written in the place of the old one if there is one.
-pub record Decoded (answer : Answer) (found : Bool) (old new : List ℕ) : Type 0 where
+pub record Decoded (answer : OuterAnswer) (found : Bool) (old new : List ℕ) : Type 0 where
   pub told : found ≡ isFound answer
   pub written : new ≡ wordOf old answer

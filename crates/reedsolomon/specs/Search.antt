@@ -20,13 +20,13 @@ unfoldable pub words : ℕ → ℕ → List (List ℕ)
 words q zero = [] ∷ []
 words q (suc n) = longer q (words q n)
 
--- a word, or none
-pub data Answer : Type 0 where
-  Found : List ℕ → Answer
-  NoneInReach : Answer
+-- what outer decoding gives: the codeword, or no word is in reach
+pub data OuterAnswer : Type 0 where
+  Found : List ℕ → OuterAnswer
+  NoneInReach : OuterAnswer
 
 -- the first of the words that has the property P
-unfoldable pub first : (P : List ℕ → Type 0) → ((w : List ℕ) → Dec (P w)) → List (List ℕ) → Answer
+unfoldable pub first : (P : List ℕ → Type 0) → ((w : List ℕ) → Dec (P w)) → List (List ℕ) → OuterAnswer
 first P decide [] = NoneInReach
 first P decide (w ∷ ws) = elim (decide w) [ yes p ↦ Found w | no p ↦ first P decide ws ]
 

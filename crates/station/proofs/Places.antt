@@ -11,7 +11,8 @@ use Rattle.dump.specs.Block.{fixedRight, checkRight}
 use Rattle.dump.specs.Dump.{blockAt, softOf}
 use Rattle.column.specs.Shape.{Shape, levels}
 use Rattle.trellis.specs.Demand.{Search}
-use Rattle.concatenated.specs.Outer.{RowAnswer, row, none, RowDecoder}
+use Rattle.reedsolomon.specs.Search.{OuterAnswer, Found, NoneInReach}
+use Rattle.concatenated.specs.Outer.{RowDecoder}
 use Rattle.concatenated.specs.Decode.{Reader, Reading, Level, State, going, stopped, decodedRow, settle, onward, run, outcome, decoded}
 use Rattle.page.specs.Outcomes.{outcomeOf}
 use Rattle.page.specs.declared.PageOutcome.{PageOutcome}
@@ -75,10 +76,10 @@ StoppedBelow k (going cs ls n) = Unit {0}
 StoppedBelow k (stopped l) = l < k
 
 module _ (S : Shape) (outer : RowDecoder) (read : Reader) (page : List (List ℕ)) where
-  settled-below : (i : ℕ) (cs : List (List ℕ)) (rs : List Reading) (ls : List Level) (n : ℕ) (a : RowAnswer) → StoppedBelow (suc i) (settle S outer i cs rs ls n a)
+  settled-below : (i : ℕ) (cs : List (List ℕ)) (rs : List Reading) (ls : List Level) (n : ℕ) (a : OuterAnswer) → StoppedBelow (suc i) (settle S outer i cs rs ls n a)
   unfolding settle
-  settled-below i cs rs ls n none = omega arith
-  settled-below i cs rs ls n (row r) = tt
+  settled-below i cs rs ls n NoneInReach = omega arith
+  settled-below i cs rs ls n (Found r) = tt
 
   onward-below : (i : ℕ) (x : State) → StoppedBelow i x → StoppedBelow (suc i) (onward S outer read i x)
   unfolding onward

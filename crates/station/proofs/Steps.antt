@@ -10,7 +10,8 @@ use Rattle.trellis.specs.Demand.{supercode}
 use Rattle.concatenated.specs.Lists.{sum}
 use Rattle.concatenated.specs.Format.{shortPage}
 use Rattle.concatenated.specs.SoftPage.{softColumns}
-use Rattle.concatenated.specs.Outer.{RowAnswer, row, none, RowDecoder}
+use Rattle.reedsolomon.specs.Search.{OuterAnswer, Found, NoneInReach}
+use Rattle.concatenated.specs.Outer.{RowDecoder}
 use Rattle.concatenated.specs.OuterCode.{shortOuter}
 use Rattle.concatenated.specs.Readers.{shortReader}
 use Rattle.concatenated.specs.Decode.{Reader, Level, State, going, stopped, count, steps, rowOff, decodedRow, settle, onward, run, outcome, decoded}
@@ -40,10 +41,10 @@ module _ (S : Shape) (outer : RowDecoder) (read : Reader) (few : (i : ℕ) (c : 
   steps-within i h [] = omega arith
   steps-within i h (c ∷ cs) = omega (arith, few i c h, steps-within i h cs)
 
-  settled-within : (i : ℕ) → i < levels S → (cs : List (List ℕ)) (ls : List Level) (n : ℕ) → Within i (going cs ls n) → (a : RowAnswer) → Within (suc i) (settle S outer i cs (map (read i) cs) ls n a)
+  settled-within : (i : ℕ) → i < levels S → (cs : List (List ℕ)) (ls : List Level) (n : ℕ) → Within i (going cs ls n) → (a : OuterAnswer) → Within (suc i) (settle S outer i cs (map (read i) cs) ls n a)
   unfolding settle
-  settled-within i h cs ls n w none = tt
-  settled-within i h cs ls n w (row r) = (omega (arith, row-off-within S i r cs, w .0), omega (arith, steps-within i h cs, w .0, w .1))
+  settled-within i h cs ls n w NoneInReach = tt
+  settled-within i h cs ls n w (Found r) = (omega (arith, row-off-within S i r cs, w .0), omega (arith, steps-within i h cs, w .0, w .1))
 
   onward-within : (i : ℕ) → i < levels S → (x : State) → Within i x → Within (suc i) (onward S outer read i x)
   unfolding onward

@@ -10,7 +10,7 @@ use lib.Dec.{eqb, lit≤}
 use lib.ListN.{length, getD, List·getD-eq-default}
 use Rattle.poly.proofs.Sum.{lt-or-le}
 use Rattle.reedsolomon.specs.Row.{Symbols, isFound, wordOf}
-use Rattle.reedsolomon.specs.Search.{Answer, Found, NoneInReach}
+use Rattle.reedsolomon.specs.Search.{OuterAnswer, Found, NoneInReach}
 use Rattle.reedsolomon.specs.Steps.{RowRoots}
 use Rattle.questions.specs.Questions.{firstAbove}
 use Rattle.store_rows.specs.Rows.{rootsOf, lengthRight}
@@ -52,7 +52,7 @@ symbols-in-range s h j =
     (λ m. let none : getD s j 0 ≡ 0 = List·getD-eq-default s 0 m in omega arith) (lt-or-le j (length s))
 
 -- where no word is found, nothing is written
-pub none-written : (a : Answer) (old new : List ℕ) → isFound a ≡ false → new ≡ wordOf old a → new ≡ old
+pub none-written : (a : OuterAnswer) (old new : List ℕ) → isFound a ≡ false → new ≡ wordOf old a → new ≡ old
 unfolding isFound wordOf
 none-written (Found c) old new e w = absurd (false≢true (sym e))
 none-written NoneInReach old new e w = w

@@ -4,7 +4,7 @@ use mathlib.Core.List.{List}
 use Prim.Native.Nat.{ℕ}
 use lib.Dec.{lit<}
 use Rattle.field.proofs.Short.{primitive64}
-use Rattle.reedsolomon.specs.Search.{Answer}
+use Rattle.reedsolomon.specs.Search.{OuterAnswer}
 use Rattle.reedsolomon.specs.Row.{outerAnswer}
 use Rattle.reedsolomon.specs.Steps.{Padded}
 use Rattle.reedsolomon.proofs.Marks.{wrongs-at-most}
@@ -41,7 +41,7 @@ row-padded c =
     padded-row 6 63 64 (s .args .symbols .now) (row c) (s .pre .0) (s .pre .3) (c .before .before .put .ensures) (lit< tt)
 
 -- the answer is the same for both
-abbrev answer : tie.After-w3 → List ℕ → Answer
+abbrev answer : tie.After-w3 → List ℕ → OuterAnswer
 answer c w = let s = c .before .before .before .before .before .before .before .before .before in outerAnswer 6 67 63 (s .args .t) w (s .args .marks .now)
 
 answer-as : (c : tie.After-w3) → answer c (c .before .before .before .before .before .before .before .before .before .args .symbols .now) ≡ answer c (row c)
