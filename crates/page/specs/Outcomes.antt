@@ -14,10 +14,14 @@ changedTotals = map (λ l. total (l .changed))
 abbrev pub erasedTotals : List Level → List ℕ
 erasedTotals = map (λ l. total (l .erased))
 
--- number 0 with the steps and the totals; or 01's number 10, "with the level as the place"
+-- what a refusal gives: its number and place; no steps and no columns
+abbrev pub refusedPage : ℕ → ℕ → PageOutcome
+refusedPage n p = record { number = n; place = p; steps = 0; changed = 0 ∷ 0 ∷ 0 ∷ 0 ∷ []; erased = 0 ∷ 0 ∷ 0 ∷ 0 ∷ [] }
+
+-- number 0 with the steps and the totals; or 01's number 10, "Place: the level in a page decode"
 unfoldable pub outcomeOf : Decoded → PageOutcome
 outcomeOf (answered ls n) = record { number = 0; place = 0; steps = n; changed = changedTotals ls; erased = erasedTotals ls }
-outcomeOf (refused l) = record { number = 10; place = l; steps = 0; changed = 0 ∷ 0 ∷ 0 ∷ 0 ∷ []; erased = 0 ∷ 0 ∷ 0 ∷ 0 ∷ [] }
+outcomeOf (refused l) = refusedPage 10 l
 
 -- the bytes of the answer; after a refusal the old ones
 unfoldable pub dataAfter : List ℕ → Decoded → List ℕ

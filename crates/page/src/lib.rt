@@ -11,7 +11,7 @@ ghost use Rattle.concatenated.specs.Readers.{shortReader};
 ghost use Rattle.concatenated.specs.Written.{writtenPage, writtenRows};
 ghost use Rattle.readings.specs.Steps.{searchOf};
 ghost use Rattle.concatenated.specs.OuterCode.{shortOuter, shortEncoder};
-ghost use Rattle.page.specs.Outcomes.{outcomeOf, dataAfter};
+ghost use Rattle.page.specs.Outcomes.{refusedPage, outcomeOf, dataAfter};
 use coding::data;
 use coding::writing;
 use levels::ColumnsOutcome;
@@ -25,6 +25,19 @@ pub struct PageOutcome {
     pub steps: u64,
     pub changed: [u8; 4],
     pub erased: [u8; 4],
+}
+
+// What a refusal gives: its number and place; no steps and no columns.
+pub fn refused(number: u64, place: u64) -> PageOutcome
+    ensures { λ r. ⌜ r ≡ refusedPage number place ⌝ }
+{
+    PageOutcome {
+        number: number,
+        place: place,
+        steps: 0,
+        changed: [0; 4],
+        erased: [0; 4],
+    }
 }
 
 // The rows of the data: each is the codeword with its part of the data in front.
@@ -97,12 +110,6 @@ pub fn decode_page(soft: &[u8], limit: u64, in_supercodes: bool, data: &mut [u8]
                 erased: totals::totals(&erased),
             }
         }
-        ColumnsOutcome::Refused(level) => PageOutcome {
-            number: 10,
-            place: level,
-            steps: 0,
-            changed: [0; 4],
-            erased: [0; 4],
-        },
+        ColumnsOutcome::Refused(level) => refused(10, level),
     }
 }

@@ -7,9 +7,10 @@ use borrow.Author.Tests.{eq-eqb, ne-eqb}
 use lib.Dec.{eqb}
 use lib.ListN.{length}
 use Rattle.trellis.specs.Demand.{supercode}
+use Rattle.page.specs.Outcomes.{refusedPage}
 use Rattle.page.specs.declared.PageOutcome.{PageOutcome}
 use Rattle.questions.specs.Questions.{ask}
-use Rattle.store_pages.specs.Pages.{PageDecoded, refusedPage, askPage}
+use Rattle.store_pages.specs.Pages.{PageDecoded, askPage}
 use Rattle.station.specs.Returned.{returned}
 use Rattle.station.specs.Report.{reportOf}
 use Rattle.station.specs.PageReturned.{PageReturned, limit, askDecode, decodeAnswer, reportAfter}

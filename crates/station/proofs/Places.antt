@@ -14,11 +14,11 @@ use Rattle.trellis.specs.Demand.{Search}
 use Rattle.reedsolomon.specs.Search.{OuterAnswer, Found, NoneInReach}
 use Rattle.concatenated.specs.Outer.{RowDecoder}
 use Rattle.concatenated.specs.Decode.{Reader, Reading, Level, State, going, stopped, decodedRow, settle, onward, run, outcome, decoded}
-use Rattle.page.specs.Outcomes.{outcomeOf}
+use Rattle.page.specs.Outcomes.{refusedPage, outcomeOf}
 use Rattle.page.specs.declared.PageOutcome.{PageOutcome}
 use Rattle.questions.specs.Questions.{ask, firstAbove}
 use Rattle.questions.specs.Outcome.{number, place}
-use Rattle.store_pages.specs.Pages.{encodePageAnswer, refusedPage, askPage, decodedPage}
+use Rattle.store_pages.specs.Pages.{encodePageAnswer, askPage, decodedPage}
 use Rattle.store_dumps.specs.Dumps.{askFixed, askCheck, askBlock, readAnswer}
 use Rattle.store_dumps.proofs.BlockByBlock.{each-keeps}
 use Rattle.questions.specs.declared.Outcome.{Outcome}

@@ -15,11 +15,11 @@ use Rattle.concatenated.specs.Outer.{RowDecoder}
 use Rattle.concatenated.specs.OuterCode.{shortOuter}
 use Rattle.concatenated.specs.Readers.{shortReader}
 use Rattle.concatenated.specs.Decode.{Reader, Level, State, going, stopped, count, steps, rowOff, decodedRow, settle, onward, run, outcome, decoded}
-use Rattle.page.specs.Outcomes.{outcomeOf}
+use Rattle.page.specs.Outcomes.{refusedPage, outcomeOf}
 use Rattle.page.specs.declared.PageOutcome.{PageOutcome}
 use Rattle.readings.proofs.RowReading.{count-within-the-limit}
 use Rattle.concatenated.proofs.SoftPages.{as-many-columns}
-use Rattle.store_pages.specs.Pages.{refusedPage, decodedPage}
+use Rattle.store_pages.specs.Pages.{decodedPage}
 use Rattle.station.specs.Report.{reportOf, stepsIn}
 use Rattle.station.specs.PageReturned.{limit, decodeAnswer}
 use Rattle.station.proofs.Places.{either, every-way}

@@ -6,10 +6,10 @@ use Prim.Native.Nat.{ℕ}
 use lib.Dec.{eqb}
 use lib.ListN.{length}
 use Rattle.trellis.specs.Demand.{supercode}
-use Rattle.page.specs.Outcomes.{outcomeOf, dataAfter}
+use Rattle.page.specs.Outcomes.{refusedPage, outcomeOf, dataAfter}
 use Rattle.page.specs.declared.PageOutcome.{PageOutcome}
 use Rattle.questions.specs.Questions.{ask}
-use Rattle.store_pages.specs.Pages.{refusedPage, askPage, decodedPage}
+use Rattle.store_pages.specs.Pages.{askPage, decodedPage}
 use Rattle.station.specs.Returned.{returned}
 use Rattle.station.specs.Report.{reportOf}
 

@@ -14,11 +14,11 @@ use Rattle.concatenated.specs.SoftPage.{softColumns}
 use Rattle.concatenated.specs.Decode.{Decoded, answered, refused}
 use Rattle.concatenated.specs.Readers.{Agree, NoneSpent, deadAhead, sumBelow, shortReader}
 use Rattle.concatenated.specs.OuterCode.{shortOuter}
-use Rattle.page.specs.Outcomes.{outcomeOf, dataAfter}
+use Rattle.page.specs.Outcomes.{refusedPage, outcomeOf, dataAfter}
 use Rattle.page.specs.declared.PageOutcome.{PageOutcome}
 use Rattle.concatenated.proofs.Short.{decoders-agree}
 use Rattle.questions.specs.Questions.{ask, firstAbove}
-use Rattle.store_pages.specs.Pages.{refusedPage, decodedPage, askPage, PageDecoded}
+use Rattle.store_pages.specs.Pages.{decodedPage, askPage, PageDecoded}
 use Rattle.store_pages.specs.BothDecoders.{SameButSteps}
 
 outcomes-agree : (d : ℕ) (w s : Decoded) → Agree d w s → SameButSteps d (outcomeOf s) (outcomeOf w)

@@ -13,12 +13,12 @@ use Rattle.concatenated.specs.Written.{writtenRows, columnsOf, bytesOfRows}
 use Rattle.concatenated.specs.Misread.{WithinReach}
 use Rattle.concatenated.specs.Readers.{shortReader}
 use Rattle.concatenated.specs.OuterCode.{shortOuter, shortEncoder, ShortCodeword}
-use Rattle.page.specs.Outcomes.{outcomeOf, dataAfter}
+use Rattle.page.specs.Outcomes.{refusedPage, outcomeOf, dataAfter}
 use Rattle.page.specs.declared.PageOutcome.{PageOutcome}
 use Rattle.concatenated.proofs.Digits.{Below}
 use Rattle.concatenated.proofs.OuterJoint.{outer-laws}
 use Rattle.concatenated.proofs.Short.{written-page-comes-back}
-use Rattle.store_pages.specs.Pages.{refusedPage, decodedPage, askPage, PageDecoded}
+use Rattle.store_pages.specs.Pages.{decodedPage, askPage, PageDecoded}
 use Rattle.questions.proofs.AllInRange.{no-value-above}
 
 answered-number : (d : Decoded) (ls : List Level) (n : ℕ) → d ≡ answered ls n → outcomeOf d .number ≡ 0

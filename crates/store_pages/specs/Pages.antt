@@ -1,5 +1,5 @@
 -- The answers of the page calls. Assumes nothing.
-use mathlib.Core.List.{List, [], _∷_}
+use mathlib.Core.List.{List}
 use mathlib.Core.Path.{_≡_}
 use Prim.Native.Nat.{ℕ}
 use lib.Dec.{eqb, leb}
@@ -11,7 +11,7 @@ use Rattle.concatenated.specs.SoftPage.{softColumns}
 use Rattle.concatenated.specs.Decode.{Decoded, decoded}
 use Rattle.concatenated.specs.Readers.{shortReader}
 use Rattle.concatenated.specs.OuterCode.{shortOuter}
-use Rattle.page.specs.Outcomes.{outcomeOf, dataAfter}
+use Rattle.page.specs.Outcomes.{refusedPage, outcomeOf, dataAfter}
 use Rattle.page.specs.declared.PageOutcome.{PageOutcome}
 use Rattle.questions.specs.Questions.{ask, firstAbove}
 use Rattle.questions.specs.declared.Outcome.{Outcome}
@@ -23,10 +23,6 @@ encodePageAnswer bytes out =
     ask (eqb (length bytes) 150) (Refused 1 0)
     (ask (eqb (length out) 252) (Refused 2 0)
     Done)
-
--- a refusal has no steps and no columns
-abbrev pub refusedPage : ℕ → ℕ → PageOutcome
-refusedPage n p = record { number = n; place = p; steps = 0; changed = 0 ∷ 0 ∷ 0 ∷ 0 ∷ []; erased = 0 ∷ 0 ∷ 0 ∷ 0 ∷ [] }
 
 -- page decoding with one of the two searches for every column at every level
 abbrev pub decodedPage : Search → List ℕ → ℕ → Decoded

@@ -10,7 +10,7 @@ ghost use Rattle.concatenated.specs.Written.{writtenPage};
 ghost use Rattle.concatenated.specs.OuterCode.{shortEncoder};
 ghost use Rattle.readings.specs.Steps.{searchOf};
 ghost use Rattle.questions.specs.Outcome.{Filled};
-ghost use Rattle.store_pages.specs.Pages.{encodePageAnswer, refusedPage, PageDecoded};
+ghost use Rattle.store_pages.specs.Pages.{encodePageAnswer, PageDecoded};
 use page::PageOutcome;
 use questions::Outcome;
 
@@ -28,38 +28,25 @@ pub fn encode_page(data: &[u8], out: &mut [u8]) -> Outcome
     Outcome::Done
 }
 
-// What a refused question gives: its number and place; no steps and no columns.
-fn refused(number: u64, place: u64) -> PageOutcome
-    ensures { λ r. ⌜ r ≡ refusedPage number place ⌝ }
-{
-    PageOutcome {
-        number: number,
-        place: place,
-        steps: 0,
-        changed: [0; 4],
-        erased: [0; 4],
-    }
-}
-
 // Either page decoder: the questions in their order, then page decoding by the search that the flag names.
 fn decode_either(soft: &[u8], limit: u64, in_supercodes: bool, data: &mut [u8]) -> PageOutcome
     ensures { λ r. ⌜ PageDecoded (searchOf in_supercodes) (now (soft .entry)) limit (now («data» .entry)) r (now («data» .exit)) ⌝ }
 {
     if soft.len() != 1890 {
-        return refused(1, 0);
+        return page::refused(1, 0);
     }
     if data.len() != 150 {
-        return refused(2, 0);
+        return page::refused(2, 0);
     }
     if limit < 1 {
-        return refused(4, 0);
+        return page::refused(4, 0);
     }
     if 2000 < limit {
-        return refused(4, 0);
+        return page::refused(4, 0);
     }
     let bad = questions::first_above(soft, 7);
     if bad < 1890 {
-        return refused(5, bad as u64);
+        return page::refused(5, bad as u64);
     }
     page::decode_page(soft, limit, in_supercodes, data)
 }

@@ -67,6 +67,9 @@ totals-requires-2 c κs =
 enum-known-outcome-2 : tie.Need-enum-known-outcome-2
 enum-known-outcome-2 c = search needs
 
+refused-requires : tie.Need-refused-requires
+refused-requires c κs = search needs
+
 same-length : tie.Need-same-length
 same-length c = search needs
 
@@ -86,14 +89,14 @@ returns c =
 returns-2 : tie.Need-returns-2
 unfolding outcomeOf dataAfter
 returns-2 c =
-    let left = c .before .before .before in
+    let left = c .before .before .before .before in
     let start = left .before .before .before .before .before .before .before .before .before .before .before .before .before .before in
     let read = shortReader (searchOf (start .args .in-supercodes)) (start .args .limit) in
-    let told = c .before .outcome2 .given in
+    let told = c .before .before .outcome2 .given in
     let loaded = left .before .before .before .before .before .before .before .before .before .before .load .ensures in
     let old = start .args .«data» .now in
     let refusal = sym (is-refused read _ _ _ _ _ (left .decode-columns .ensures) (told .0 .0) (told .1)) in (
-      ap outcomeOf refusal ∙ ap (λ (p : List (List ℕ)). outcomeOf (decoded short shortOuter read p)) loaded,
+      c .refused .ensures ∙ ap outcomeOf refusal ∙ ap (λ (p : List (List ℕ)). outcomeOf (decoded short shortOuter read p)) loaded,
       ap (dataAfter old) refusal ∙ ap (λ (p : List (List ℕ)). dataAfter old (decoded short shortOuter read p)) loaded,
     )
 
@@ -110,6 +113,7 @@ decode-page-spec =
     totals-requires
     totals-requires-2
     enum-known-outcome-2
+    refused-requires
     same-length
     returns
     returns-2)

@@ -2,8 +2,8 @@
 use mathlib.Core.Path.{sym, ap, _∙_, subst}
 use Prim.Native.Nat.{ℕ, _≤_, _<_}
 use borrow.Author.Tests.{eq-eqb, ne-eqb, le-leb, lt-leb}
+use Rattle.page.specs.Outcomes.{refusedPage}
 use Rattle.questions.specs.Questions.{firstAbove}
-use Rattle.store_pages.specs.Pages.{refusedPage}
 use Rattle.store_pages.proofs.SoftValues.{values-are-soft}
 use borrow.Author.Needs.{needs}
 use Rattle.store_pages.proofs.decode_either.Statement.{statement}
