@@ -9,7 +9,7 @@ use Rattle.column.specs.Level.{reimaged}
 use Rattle.reedsolomon.specs.Search.{OuterAnswer, Found, NoneInReach}
 use Rattle.concatenated.specs.Lists.{All, sum}
 use Rattle.concatenated.specs.Outer.{RowDecoder}
-use Rattle.concatenated.specs.Decode.{Reading, found, spent, Reader, mark, marks, symbol, symbols, count, steps, changed, Level, level, State, going, stopped, decodedRow, settle, onward, run, Reaches, outcome, decoded}
+use Rattle.concatenated.specs.Decode.{Reading, found, spent, Reader, mark, marks, symbol, symbols, count, steps, changed, Level, level, State, going, stopped, decodedRow, settle, onward, run, Reaches, AtEveryLevel, outcome, decoded}
 use Rattle.concatenated.specs.Readers.{Apart, Agree, sumOver, sumBelow}
 
 -- two readings of a level with the same symbols and marks, the second with d more steps
@@ -97,7 +97,7 @@ same-outcome d (stopped l) (stopped k) h = h
 
 -- `first` and `second` read each column of the second decoder's run alike, the second with `dead` more paths
 module _ (S : Shape) (outer : RowDecoder) (first second : Reader) (dead : ℕ → List ℕ → ℕ) (page : List (List ℕ))
-    (apart : (i : ℕ) → i < levels S → (cs : List (List ℕ)) → Reaches S outer second page i cs → All (λ c. Apart (dead i c) (first i c) (second i c)) cs) where
+    (apart : AtEveryLevel S outer second page (λ i. All (λ c. Apart (dead i c) (first i c) (second i c)))) where
   apart-at : (i : ℕ) → i < levels S → (y : State) → run S outer second page i ≡ y → OnColumns (λ cs. All (λ c. Apart (dead i c) (first i c) (second i c)) cs) y
   apart-at i l (stopped k) e = tt
   apart-at i l (going cs ls n) e = apart i l cs (ls, n, e)

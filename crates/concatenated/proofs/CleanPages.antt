@@ -20,7 +20,8 @@ use Rattle.concatenated.specs.SoftPage.{Soft, hardReading, columnOff}
 use Rattle.concatenated.specs.Decode.{Reading, found, spent, Reader, mark, marks, rowOff, changed, Level, level, answered, decoded, rows}
 use Rattle.concatenated.specs.Written.{writtenRows, columnSymbols, columnsOf, rowAt, writtenSum, bytesOfRows}
 use Rattle.concatenated.specs.Misread.{otherThan, othersThan, misread}
-use Rattle.concatenated.specs.Clean.{ReadsAs, FindsTheReading, NoColumnSpent}
+use Rattle.concatenated.specs.Readers.{NoColumnSpent}
+use Rattle.concatenated.specs.Clean.{ReadsAs, FindsTheReading}
 use Rattle.concatenated.proofs.Lists.{all-map, all-listed}
 use Rattle.concatenated.proofs.Digits.{Below}
 use Rattle.concatenated.proofs.TakingOff.{off-length, column-stays-soft, taking-off-adds-to-the-reading}

@@ -9,7 +9,7 @@ use Rattle.trellis.specs.Demand.{whole, supercode}
 use Rattle.trellis.proofs.Demand.{Searchable}
 use Rattle.concatenated.specs.Lists.{All, sum}
 use Rattle.concatenated.specs.Outer.{RowDecoder}
-use Rattle.concatenated.specs.Decode.{Reader, run, Reaches, decoded}
+use Rattle.concatenated.specs.Decode.{Reader, run, Reaches, AtEveryLevel, decoded}
 use Rattle.concatenated.specs.Readers.{readerOf, deadAhead, Apart, Agree, NoneSpent, sumOver, sumBelow}
 use Rattle.concatenated.proofs.Lists.{all-map}
 use Rattle.concatenated.proofs.Searches.{searches-differ-by-the-dead-ahead, no-path-is-dead, one-search-is-apart-by-none}
@@ -29,12 +29,11 @@ module _ (S : Shape) (searchable : (i : ℕ) → i < levels S → Searchable S i
 
   module _ (page : List (List ℕ)) (none-spent : NoneSpent S outer bySupercode page) where
     -- in each column search the whole-trellis decoder's count is smaller by exactly the dead paths ahead of the codeword
-    pub column-searches-differ-by-the-dead-ahead : (i : ℕ) → i < levels S → (cs : List (List ℕ)) → Reaches S outer bySupercode page i cs
-        → All (λ c. Apart (deadAhead S vs limit i c) (byWhole i c) (bySupercode i c)) cs
+    pub column-searches-differ-by-the-dead-ahead : AtEveryLevel S outer bySupercode page (λ i. All (λ c. Apart (deadAhead S vs limit i c) (byWhole i c) (bySupercode i c)))
     column-searches-differ-by-the-dead-ahead zero h cs at =
         each (λ c. Apart (deadAhead S vs limit 0 c) (byWhole 0 c) (bySupercode 0 c)) (λ c. one-search-is-apart-by-none S 0 (searchable 0 h) vs limit c one-code) cs
     column-searches-differ-by-the-dead-ahead (suc i) h cs at =
-        all-map cs (λ c unspent. searches-differ-by-the-dead-ahead S (suc i) (searchable (suc i) h) vs limit c unspent) (none-spent (suc i) (omega arith) h cs at)
+        all-map cs (λ c unspent. searches-differ-by-the-dead-ahead S (suc i) (searchable (suc i) h) vs limit c unspent) (none-spent (suc i) h cs at (omega arith))
 
     -- the same rows with the same changed and erased columns at each level, or the same refusal; the steps differ by all dead paths ahead together
     pub decoders-agree : Agree (sumBelow S outer bySupercode page (deadAhead S vs limit) (levels S)) (decoded S outer byWhole page) (decoded S outer bySupercode page)

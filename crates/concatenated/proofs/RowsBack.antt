@@ -1,18 +1,18 @@
 -- The written rows come back wherever, at each level, twice the misread columns plus the unread ones stay within the roots: for any reader. Assumes nothing.
 use mathlib.Core.List.{List, [], _∷_, _++_, map}
 use mathlib.Core.Path.{_≡_, refl, sym, ap, _∙_}
-use Prim.Native.Nat.{ℕ, zero, suc, _+_, _*_, _≤_, _<_}
+use Prim.Native.Nat.{ℕ, zero, suc, _+_, _≤_, _<_}
 use native.Mathlib.Omega.{arith}
 use lib.ListN.{length, length-map, getD}
 use Rattle.column.specs.Shape.{Shape, levels}
 use Rattle.column.specs.Level.{reimaged}
 use Rattle.reedsolomon.specs.Search.{Found}
-use Rattle.concatenated.specs.Lists.{All, total, listed}
+use Rattle.concatenated.specs.Lists.{All, listed}
 use Rattle.concatenated.specs.Format.{Format}
 use Rattle.concatenated.specs.Outer.{RowDecoder, RowEncoder, OuterLaws}
 use Rattle.concatenated.specs.Decode.{Reading, Reader, mark, marks, symbol, symbols, steps, rowOff, Level, level, going, answered, decodedRow, settle, onward, run, Reaches, outcome, decoded, rows}
 use Rattle.concatenated.specs.Written.{rowAt, writtenSum}
-use Rattle.concatenated.specs.Misread.{misread, unread, WithinReach}
+use Rattle.concatenated.specs.Misread.{LevelWithinReach, WithinReach}
 use Rattle.concatenated.proofs.Lists.{all-map}
 use Rattle.concatenated.proofs.Counting.{in-reach-by-totals}
 use Rattle.concatenated.proofs.Columns.{row-length, rows-more, cleared, cleared-length, altered-columns-are-misread}
@@ -55,8 +55,7 @@ module _ (P : Format) (outer : RowDecoder) (encoded : RowEncoder) (Codeword : �
   -- as `WithinReach`, asked only of the columns with the written words of the lower levels taken off
   abbrev pub TrueWithinReach : Type 0
   TrueWithinReach =
-      (i : ℕ) → i < levels S → Reaches S outer read page i (cleared S ws page i)
-      → 2 * total (misread S i ws (readings S read ws page i)) + total (unread (readings S read ws page i)) ≤ P .roots i
+      (i : ℕ) → i < levels S → Reaches S outer read page i (cleared S ws page i) → LevelWithinReach P read ws i (cleared S ws page i)
 
   -- there the written row is given
   row-is-written : TrueWithinReach → (i : ℕ) → i < levels S → Reaches S outer read page i (cleared S ws page i) → decodedRow S outer i (readings S read ws page i) ≡ Found (rowAt i ws)

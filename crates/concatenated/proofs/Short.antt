@@ -16,11 +16,11 @@ use Rattle.concatenated.specs.Format.{SoundFormat, shortPage, shortRoots
 use Rattle.concatenated.specs.Outer.{RowDecoder, RowEncoder, OuterLaws}
 use Rattle.concatenated.specs.Data.{digits}
 use Rattle.concatenated.specs.SoftPage.{Soft, softColumns}
-use Rattle.concatenated.specs.Decode.{Level, answered, decoded, rows, Reaches}
+use Rattle.concatenated.specs.Decode.{Level, answered, decoded, rows, Reaches, AtEveryLevel}
 use Rattle.concatenated.specs.Written.{writtenRows, writtenPage, columnsOf, columnInBytes, bytesOfRows}
 use Rattle.concatenated.specs.Misread.{WithinReach}
-use Rattle.concatenated.specs.Readers.{shortReader, deadAhead, Apart, Agree, NoneSpent, sumBelow}
-use Rattle.concatenated.specs.Clean.{ReadsAs, NoColumnSpent, AgreeingIsAbove}
+use Rattle.concatenated.specs.Readers.{shortReader, deadAhead, Apart, Agree, NoColumnSpent, NoneSpent, sumBelow}
+use Rattle.concatenated.specs.Clean.{ReadsAs, AgreeingIsAbove}
 use Rattle.concatenated.proofs.Digits.{Below}
 use Rattle.concatenated.proofs.Encoding.{page-in-bytes-length}
 use Rattle.concatenated.proofs.PageBack as PageBack
@@ -95,8 +95,8 @@ module _ (outer : RowDecoder) (limit : ℕ) (page : List (List ℕ)) (none-spent
   pub decoders-agree : Agree allDeadAhead (decoded short outer (shortReader whole limit) page) (decoded short outer (shortReader supercode limit) page)
   decoders-agree = DecodersAgree.decoders-agree short Columns.searchable one-code outer (λ i. values) limit page none-spent
 
-  pub column-searches-differ-by-the-dead-ahead : (i : ℕ) → i < 4 → (cs : List (List ℕ)) → Reaches short outer (shortReader supercode limit) page i cs
-      → Reaches short outer (shortReader whole limit) page i cs × All (λ c. Apart (deadAhead short (λ i. values) limit i c) (shortReader whole limit i c) (shortReader supercode limit i c)) cs
+  pub column-searches-differ-by-the-dead-ahead : AtEveryLevel short outer (shortReader supercode limit) page
+      (λ i cs. Reaches short outer (shortReader whole limit) page i cs × All (λ c. Apart (deadAhead short (λ i. values) limit i c) (shortReader whole limit i c) (shortReader supercode limit i c)) cs)
   column-searches-differ-by-the-dead-ahead i h cs at = (
     DecodersAgree.decoders-search-the-same-columns short Columns.searchable one-code outer (λ i. values) limit page none-spent i (omega arith) cs at,
     DecodersAgree.column-searches-differ-by-the-dead-ahead short Columns.searchable one-code outer (λ i. values) limit page none-spent i h cs at,

@@ -1,5 +1,5 @@
 -- Clean bits: each soft value reads as the written bit. Assumes nothing.
-use mathlib.Core.Bool.{true, false}
+use mathlib.Core.Bool.{true}
 use mathlib.Core.List.{List}
 use mathlib.Core.Path.{_≡_}
 use Prim.Native.Nat.{ℕ, _<_}
@@ -8,10 +8,9 @@ use lib.ListN.{length, getD}
 use lib.Signed.{ltZ}
 use Rattle.column.specs.Shape.{Shape, Word, levels, levelCode}
 use Rattle.trellis.specs.Values.{Values}
-use Rattle.concatenated.specs.Lists.{All, Pairs}
-use Rattle.concatenated.specs.Outer.{RowDecoder}
+use Rattle.concatenated.specs.Lists.{Pairs}
 use Rattle.concatenated.specs.SoftPage.{Soft, hardReading}
-use Rattle.concatenated.specs.Decode.{found, Reader, mark, Reaches}
+use Rattle.concatenated.specs.Decode.{found, Reader}
 use Rattle.concatenated.specs.Written.{writtenSum}
 
 -- each column reads as the sum of its written words of the levels i to the highest
@@ -22,10 +21,6 @@ ReadsAs S i cs ws = Pairs (λ c s. hardReading c ≡ writtenSum S i s) cs ws
 abbrev pub FindsTheReading : Shape → Reader → Type 0
 FindsTheReading S read =
     (i : ℕ) → i < levels S → (c : List ℕ) (w n : ℕ) → length c ≡ S .bits → Soft c → Word (S .bits) (levelCode S i) (hardReading c) → read i c ≡ found w n → w ≡ hardReading c
-
--- 02, point 12: "no column is spent"
-abbrev pub NoColumnSpent : Shape → RowDecoder → Reader → List (List ℕ) → Type 0
-NoColumnSpent S outer read page = (i : ℕ) → i < levels S → (cs : List (List ℕ)) → Reaches S outer read page i cs → All (λ c. mark (read i c) ≡ false) cs
 
 -- at each sureness an agreeing value is above a disagreeing one
 abbrev pub AgreeingIsAbove : Values → Type 0

@@ -2,7 +2,7 @@
 use mathlib.Core.Bool.{Bool, true, false, cond, not}
 use mathlib.Core.List.{List, [], _∷_, _++_, map}
 use mathlib.Core.Path.{_≡_}
-use Prim.Native.Nat.{ℕ, zero, suc, _+_}
+use Prim.Native.Nat.{ℕ, zero, suc, _+_, _<_}
 use lib.Dec.{eqb}
 use Rattle.column.specs.Shape.{Shape, levels}
 use Rattle.column.specs.Level.{levelWord, reimaged}
@@ -99,6 +99,10 @@ module _ (S : Shape) (outer : RowDecoder) where
     -- the decoder comes to level i, and its columns there are cs
     abbrev pub Reaches : List (List ℕ) → ℕ → List (List ℕ) → Type 0
     Reaches page i cs = (ls : List Level) × (n : ℕ) × (run page i ≡ going cs ls n)
+
+    -- at every level that the decoder comes to, on its columns there
+    abbrev pub AtEveryLevel : List (List ℕ) → (ℕ → List (List ℕ) → Type 0) → Type 0
+    AtEveryLevel page P = (i : ℕ) → i < levels S → (cs : List (List ℕ)) → Reaches page i cs → P i cs
 
 unfoldable pub outcome : State → Decoded
 outcome (going cs ls n) = answered ls n

@@ -1,13 +1,13 @@
 -- Which columns of a written page a decoder misreads or leaves unread. Assumes nothing.
 use mathlib.Core.Bool.{Bool, false, not}
 use mathlib.Core.List.{List, [], _∷_, map}
-use Prim.Native.Nat.{ℕ, _+_, _*_, _≤_, _<_}
+use Prim.Native.Nat.{ℕ, _+_, _*_, _≤_}
 use lib.Dec.{eqb}
-use Rattle.column.specs.Shape.{Shape, levels}
+use Rattle.column.specs.Shape.{Shape}
 use Rattle.concatenated.specs.Lists.{total}
 use Rattle.concatenated.specs.Format.{Format}
 use Rattle.concatenated.specs.Outer.{RowDecoder}
-use Rattle.concatenated.specs.Decode.{Reading, found, spent, Reader, marks, Reaches}
+use Rattle.concatenated.specs.Decode.{Reading, found, spent, Reader, marks, AtEveryLevel}
 use Rattle.concatenated.specs.Written.{writtenSum}
 
 -- the word returned is another than v; a spent search returns none
@@ -29,8 +29,10 @@ misread S i ws = othersThan (map (writtenSum S i) ws)
 abbrev pub unread : List Reading → List Bool
 unread = marks
 
--- demand 2: "at each level, twice the misread columns plus the unread ones stay within 30, 12, 6 and 4": at each level that the decoder comes to, on its columns there
+-- demand 2: "twice the misread columns plus the unread ones stay within 30, 12, 6 and 4": level i, its columns being cs
+abbrev pub LevelWithinReach : Format → Reader → List (List ℕ) → ℕ → List (List ℕ) → Type 0
+LevelWithinReach P read ws i cs = 2 * total (misread (P .shape) i ws (map (read i) cs)) + total (unread (map (read i) cs)) ≤ P .roots i
+
+-- demand 2: "at each level"
 abbrev pub WithinReach : Format → RowDecoder → Reader → List (List ℕ) → List (List ℕ) → Type 0
-WithinReach P outer read ws page =
-    (i : ℕ) → i < levels (P .shape) → (cs : List (List ℕ)) → Reaches (P .shape) outer read page i cs
-    → 2 * total (misread (P .shape) i ws (map (read i) cs)) + total (unread (map (read i) cs)) ≤ P .roots i
+WithinReach P outer read ws page = AtEveryLevel (P .shape) outer read page (LevelWithinReach P read ws)

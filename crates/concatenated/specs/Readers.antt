@@ -3,7 +3,7 @@ use mathlib.Core.Bool.{false}
 use mathlib.Core.List.{List, map}
 use mathlib.Core.Path.{_≡_}
 use Prim.Native.Nat.{ℕ, zero, suc, _+_, _<_}
-use Rattle.column.specs.Shape.{Shape, levels, short}
+use Rattle.column.specs.Shape.{Shape, short}
 use Rattle.paths.specs.Paths.{Path}
 use Rattle.paths.specs.Search.{Outcome, answer, limited-search}
 use Rattle.paths.specs.Search
@@ -13,7 +13,7 @@ use Rattle.trellis.specs.Trellis.{wholeTrellis, supercodeTrellis, searched}
 use Rattle.trellis.specs.Demand.{Search as Kind, trellis}
 use Rattle.concatenated.specs.Lists.{All, sum}
 use Rattle.concatenated.specs.Outer.{RowDecoder}
-use Rattle.concatenated.specs.Decode.{Reading, found, spent, Reader, mark, State, going, stopped, Decoded, answered, refused, run, Reaches}
+use Rattle.concatenated.specs.Decode.{Reading, found, spent, Reader, mark, State, going, stopped, Decoded, answered, refused, run, AtEveryLevel}
 
 -- 01: "a spent column counting the limit"
 unfoldable pub readingOf : ℕ → Outcome ℕ → Reading
@@ -53,10 +53,18 @@ unfoldable pub sumOver : (List ℕ → ℕ) → State → ℕ
 sumOver f (going cs ls n) = sum (map f cs)
 sumOver f (stopped l) = 0
 
+-- no column of level i is unread
+abbrev pub AllRead : Reader → ℕ → List (List ℕ) → Type 0
+AllRead read i = All (λ c. mark (read i c) ≡ false)
+
 module _ (S : Shape) (outer : RowDecoder) (read : Reader) (page : List (List ℕ)) where
-  -- demand 3: "no column spends its limit over two supercode trellises": at the levels above 0 that the decoder comes to, on its columns there
+  -- 02, point 12: "no column is spent"
+  abbrev pub NoColumnSpent : Type 0
+  NoColumnSpent = AtEveryLevel S outer read page (AllRead read)
+
+  -- demand 3: "no column spends its limit over two supercode trellises", which are those of the levels above 0
   abbrev pub NoneSpent : Type 0
-  NoneSpent = (i : ℕ) → 0 < i → i < levels S → (cs : List (List ℕ)) → Reaches S outer read page i cs → All (λ c. mark (read i c) ≡ false) cs
+  NoneSpent = AtEveryLevel S outer read page (λ i cs. 0 < i → AllRead read i cs)
 
   -- what the columns of the levels below i come to, in the decoder's run
   unfoldable pub sumBelow : (ℕ → List ℕ → ℕ) → ℕ → ℕ
