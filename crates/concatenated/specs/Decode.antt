@@ -72,9 +72,9 @@ pub data State : Type 0 where
   stopped : ℕ → State
 
 -- what page decoding gives: the levels and the steps; or refused, by number 10, with the level as the place
-pub data Decoded : Type 0 where
-  answered : List Level → ℕ → Decoded
-  refused : ℕ → Decoded
+pub data PageAnswer : Type 0 where
+  answered : List Level → ℕ → PageAnswer
+  refused : ℕ → PageAnswer
 
 module _ (S : Shape) (outer : RowDecoder) where
   -- 01: "The row is decoded"
@@ -104,12 +104,12 @@ module _ (S : Shape) (outer : RowDecoder) where
     abbrev pub AtEveryLevel : List (List ℕ) → (ℕ → List (List ℕ) → Type 0) → Type 0
     AtEveryLevel page P = (i : ℕ) → i < levels S → (cs : List (List ℕ)) → Reaches page i cs → P i cs
 
-unfoldable pub outcome : State → Decoded
+unfoldable pub outcome : State → PageAnswer
 outcome (going cs ls n) = answered ls n
 outcome (stopped l) = refused l
 
 -- 01: "Page decoding goes level by level."
-unfoldable pub decoded : Shape → RowDecoder → Reader → List (List ℕ) → Decoded
+unfoldable pub decoded : Shape → RowDecoder → Reader → List (List ℕ) → PageAnswer
 decoded S outer read page = outcome (run S outer read page (levels S))
 
 -- the rows of an answer

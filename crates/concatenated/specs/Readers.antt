@@ -13,7 +13,7 @@ use Rattle.trellis.specs.Trellis.{wholeTrellis, supercodeTrellis, searched}
 use Rattle.trellis.specs.Demand.{Search as Kind, trellis}
 use Rattle.concatenated.specs.Lists.{All, sum}
 use Rattle.concatenated.specs.Outer.{RowDecoder}
-use Rattle.concatenated.specs.Decode.{Reading, found, spent, Reader, mark, State, going, stopped, Decoded, answered, refused, run, AtEveryLevel}
+use Rattle.concatenated.specs.Decode.{Reading, found, spent, Reader, mark, State, going, stopped, PageAnswer, answered, refused, run, AtEveryLevel}
 
 -- 01: "a spent column counting the limit"
 unfoldable pub readingOf : ℕ → Outcome ℕ → Reading
@@ -42,7 +42,7 @@ Apart d (spent m) (found v n) = ⊥
 Apart d (spent m) (spent n) = n ≡ m + d
 
 -- demand 3: both answer with the same rows, changed and erased columns at each level, the second with d more steps; or both refuse with the same level
-abbrev pub Agree : ℕ → Decoded → Decoded → Type 0
+abbrev pub Agree : ℕ → PageAnswer → PageAnswer → Type 0
 Agree d (answered ls m) (answered ks n) = (ls ≡ ks) × (n ≡ m + d)
 Agree d (answered ls m) (refused l) = ⊥
 Agree d (refused l) (answered ks n) = ⊥

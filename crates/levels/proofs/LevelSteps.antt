@@ -12,8 +12,7 @@ use Rattle.trellis.specs.Values.{values}
 use Rattle.trellis.specs.Demand.{Search as Kind}
 use Rattle.trellis.proofs.Short.{searchable}
 use Rattle.reedsolomon.specs.Search.{OuterAnswer, Found, NoneInReach}
-use Rattle.reedsolomon.specs.Row.{outerAnswer, wordOf, isFound}
-use Rattle.reedsolomon.specs.Row
+use Rattle.reedsolomon.specs.Row.{outerAnswer, wordOf, isFound, RowDecoded}
 use Rattle.concatenated.specs.Lists.{All}
 use Rattle.concatenated.specs.Format.{shortRoots}
 use Rattle.concatenated.specs.SoftPage.{Soft}
@@ -64,7 +63,7 @@ soft-off i r work after long s e =
     })
 
 module _ (i : ℕ) (h : i < 4) (rs : List Reading) (long : length rs ≡ 63) (xs ms : List ℕ) (n : ℕ) (read : RowRead i rs xs ms n) (t : ℕ) (et : t ≡ shortRoots i) (settled : Bool) (old new : List ℕ)
-    (given : Row.Decoded (outerAnswer 6 67 63 t xs ms) settled old new) where
+    (given : RowDecoded (outerAnswer 6 67 63 t xs ms) settled old new) where
   -- the row of a level is the outer code's answer on what was read
   row-is : decodedRow short shortOuter i rs ≡ outerAnswer 6 67 63 t xs ms
   unfolding decodedRow shortOuter

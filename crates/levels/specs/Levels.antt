@@ -8,7 +8,7 @@ use Rattle.levels.specs.declared.LevelOut.{LevelOut}
 use Rattle.levels.specs.declared.ColumnsOutcome.{ColumnsOutcome}
 use Rattle.levels.specs.declared.ColumnsOutcome.the-variants.{Answered, Refused}
 use Rattle.reedsolomon.specs.Search.{OuterAnswer, Found, NoneInReach}
-use Rattle.concatenated.specs.Decode.{Reading, Reader, symbols, marks, steps, changed, rowOff, decodedRow, Level, rows, Decoded, answered, refused, decoded}
+use Rattle.concatenated.specs.Decode.{Reading, Reader, symbols, marks, steps, changed, rowOff, decodedRow, Level, rows, PageAnswer, answered, refused, decoded}
 use Rattle.concatenated.specs.Flags.{flag}
 use Rattle.concatenated.specs.Arrays.{Rows, FourSets}
 use Rattle.concatenated.specs.OuterCode.{shortOuter}
@@ -31,7 +31,7 @@ abbrev pub erasedFlags : List Level → List (List ℕ)
 erasedFlags = map (λ l. map flag (l .erased))
 
 -- what the levels leave, by what page decoding gives: the outcome, and what is held of each level
-abbrev pub Ends : Decoded → ColumnsOutcome → List (List ℕ) → List (List ℕ) → List (List ℕ) → Type 0
+abbrev pub Ends : PageAnswer → ColumnsOutcome → List (List ℕ) → List (List ℕ) → List (List ℕ) → Type 0
 Ends (answered ls n) r held changes erased =
     (r ≡ Answered n) × (held ≡ rows ls) × (changes ≡ changedFlags ls) × (erased ≡ erasedFlags ls)
     × Rows held × FourSets changes × FourSets erased

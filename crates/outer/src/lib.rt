@@ -3,7 +3,7 @@
 ghost use mathlib.Core.Path.{_≡_};
 ghost use Prim.Native.Nat.{_+_, _≤_};
 ghost use lib.ListN.{length};
-ghost use Rattle.reedsolomon.specs.Row.{Symbols, outerAnswer, encodedRow, Decoded};
+ghost use Rattle.reedsolomon.specs.Row.{Symbols, outerAnswer, encodedRow, RowDecoded};
 ghost use Rattle.reedsolomon.specs.Steps.{RowRoots};
 use locator::erasure;
 use syndromes::encoder;
@@ -24,7 +24,7 @@ pub fn encode(data: &[u8], t: usize, out: &mut [u8])
 // Writes the codeword in reach of the symbols, and tells whether there is one; where there is none, nothing is written.
 pub fn decode(symbols: &[u8], marks: &[u8], t: usize, out: &mut [u8]) -> bool
     requires { ⌜ (length (now symbols) ≡ 63) × (length (now marks) ≡ 63) × (length (now out) ≡ 63) × Symbols 6 (now symbols) × (t ≤ 30) ⌝ }
-    ensures { λ r. ⌜ Decoded (outerAnswer 6 67 63 t (now (symbols .entry)) (now (marks .entry))) r (now (out .entry)) (now (out .exit)) ⌝ }
+    ensures { λ r. ⌜ RowDecoded (outerAnswer 6 67 63 t (now (symbols .entry)) (now (marks .entry))) r (now (out .entry)) (now (out .exit)) ⌝ }
 {
     let n = erasure::number(marks);
     if t < n {

@@ -11,7 +11,7 @@ use Rattle.concatenated.specs.Lists.{All, total}
 use Rattle.concatenated.specs.Format.{shortPage, dataBefore, dataCount}
 use Rattle.concatenated.specs.SoftPage.{Soft, softColumns}
 use Rattle.concatenated.specs.Data.{dataBytes}
-use Rattle.concatenated.specs.Decode.{Reader, Level, rows, Decoded, answered, refused, decoded}
+use Rattle.concatenated.specs.Decode.{Reader, Level, rows, PageAnswer, answered, refused, decoded}
 use Rattle.concatenated.specs.Written.{rowsData, bytesOfRows}
 use Rattle.concatenated.specs.Flags.{flag, isOne}
 use Rattle.concatenated.specs.Arrays.{SoftColumns, Rows, FourSets}
@@ -33,7 +33,7 @@ soft-columns soft columns long h e =
     subst⁻¹ SoftColumns e (record { many = as-many-columns shortPage soft; soft = columns-are-soft shortPage soft long h })
 
 -- what the levels left of an answer
-pub record AnsweredBy (d : Decoded) (n : ℕ) (held changes erased : List (List ℕ)) : Type 0 where
+pub record AnsweredBy (d : PageAnswer) (n : ℕ) (held changes erased : List (List ℕ)) : Type 0 where
   pub levels : List Level
   pub is : d ≡ answered levels n
   pub rows-are : held ≡ rows levels
@@ -48,7 +48,7 @@ module _ (read : Reader) (page held changes erased : List (List ℕ)) (r : Colum
   unfolding ColumnsDone
   is-answered n e = go (decoded short shortOuter read page) refl done
     where
-      go : (d : Decoded) → decoded short shortOuter read page ≡ d → Ends d r held changes erased → AnsweredBy (decoded short shortOuter read page) n held changes erased
+      go : (d : PageAnswer) → decoded short shortOuter read page ≡ d → Ends d r held changes erased → AnsweredBy (decoded short shortOuter read page) n held changes erased
       go (answered ls m) ed h =
           let same : m ≡ n = cc (sym (h .0) ∙ e) in
           record {
@@ -67,7 +67,7 @@ module _ (read : Reader) (page held changes erased : List (List ℕ)) (r : Colum
   unfolding ColumnsDone
   is-refused l e = go (decoded short shortOuter read page) refl done
     where
-      go : (d : Decoded) → decoded short shortOuter read page ≡ d → Ends d r held changes erased → decoded short shortOuter read page ≡ refused l
+      go : (d : PageAnswer) → decoded short shortOuter read page ≡ d → Ends d r held changes erased → decoded short shortOuter read page ≡ refused l
       go (answered ls m) ed h = let z : Answered m ≡ Refused l = sym (h .0) ∙ e in let y : _≡_ {A = ℕ} 0 1 = cc z in absurd (omega arith)
       go (refused k) ed h = let same : k ≡ l = cc (sym h ∙ e) in ed ∙ ap refused same
 
@@ -104,7 +104,7 @@ pub rows-data-small : (held : List (List ℕ)) (symbols : List ℕ) → Rows hel
 rows-data-small held symbols good e = subst⁻¹ (λ (x : List ℕ). (j : ℕ) → getD x j 0 < 64) e (all-small (rowsData shortPage held 4) (rows-data-below held good 4))
 
 -- the outcome and the data of an answer
-module _ (d : Decoded) (n : ℕ) (held changes erased : List (List ℕ)) (a : AnsweredBy d n held changes erased) where
+module _ (d : PageAnswer) (n : ℕ) (held changes erased : List (List ℕ)) (a : AnsweredBy d n held changes erased) where
   pub answered-outcome : (cs es : List ℕ) → cs ≡ map (λ (s : List ℕ). total (map isOne s)) changes → es ≡ map (λ (s : List ℕ). total (map isOne s)) erased
       → record { number = 0; place = 0; steps = n; changed = cs; erased = es } ≡ outcomeOf d
   unfolding outcomeOf

@@ -4,7 +4,7 @@ use Prim.Native.Nat.{ℕ}
 use Rattle.page.specs.declared.PageOutcome.{PageOutcome}
 use Rattle.concatenated.specs.Lists.{total}
 use Rattle.concatenated.specs.Format.{shortPage}
-use Rattle.concatenated.specs.Decode.{Level, rows, Decoded, answered, refused}
+use Rattle.concatenated.specs.Decode.{Level, rows, PageAnswer, answered, refused}
 use Rattle.concatenated.specs.Written.{bytesOfRows}
 
 -- how many columns each level changed, and how many it erased
@@ -19,11 +19,11 @@ abbrev pub refusedPage : ℕ → ℕ → PageOutcome
 refusedPage n p = record { number = n; place = p; steps = 0; changed = 0 ∷ 0 ∷ 0 ∷ 0 ∷ []; erased = 0 ∷ 0 ∷ 0 ∷ 0 ∷ [] }
 
 -- number 0 with the steps and the totals; or 01's number 10, "Place: the level in a page decode"
-unfoldable pub outcomeOf : Decoded → PageOutcome
+unfoldable pub outcomeOf : PageAnswer → PageOutcome
 outcomeOf (answered ls n) = record { number = 0; place = 0; steps = n; changed = changedTotals ls; erased = erasedTotals ls }
 outcomeOf (refused l) = refusedPage 10 l
 
 -- the bytes of the answer; after a refusal the old ones
-unfoldable pub dataAfter : List ℕ → Decoded → List ℕ
+unfoldable pub dataAfter : List ℕ → PageAnswer → List ℕ
 dataAfter old (answered ls n) = bytesOfRows shortPage (rows ls)
 dataAfter old (refused l) = old

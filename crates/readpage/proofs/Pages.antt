@@ -8,7 +8,7 @@ use borrow.Author.Tests.{eq-eqb}
 use lib.Dec.{leb}
 use lib.ListN.{length}
 use Rattle.trellis.specs.Demand.{Search}
-use Rattle.concatenated.specs.Decode.{Decoded, answered, refused}
+use Rattle.concatenated.specs.Decode.{PageAnswer, answered, refused}
 use Rattle.page.specs.Outcomes.{outcomeOf, dataAfter}
 use Rattle.page.specs.declared.PageOutcome.{PageOutcome}
 use Rattle.questions.specs.Questions.{firstAbove}
@@ -16,12 +16,12 @@ use Rattle.store_pages.specs.Pages.{decodedPage, PageDecoded}
 use Rattle.listing.specs.Lines.{refusedLine, pageText}
 use Rattle.readpage.specs.Report.{decodedText}
 
-refused-text : (d : Decoded) → (outcomeOf d .number ≡ 0 → ⊥) → refusedLine (outcomeOf d .number) (outcomeOf d .place) ≡ decodedText d
+refused-text : (d : PageAnswer) → (outcomeOf d .number ≡ 0 → ⊥) → refusedLine (outcomeOf d .number) (outcomeOf d .place) ≡ decodedText d
 unfolding outcomeOf decodedText
 refused-text (answered ls n) some = absurd (some refl)
 refused-text (refused l) some = refl
 
-answered-text : (old : List ℕ) (d : Decoded) → outcomeOf d .number ≡ 0
+answered-text : (old : List ℕ) (d : PageAnswer) → outcomeOf d .number ≡ 0
     → pageText (outcomeOf d .steps) (outcomeOf d .changed) (outcomeOf d .erased) (dataAfter old d) ≡ decodedText d
 unfolding outcomeOf dataAfter decodedText
 answered-text old (answered ls n) none = refl

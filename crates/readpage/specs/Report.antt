@@ -5,7 +5,7 @@ use lib.ListN.{replicate}
 use Rattle.dump.specs.Dump.{softOf}
 use Rattle.trellis.specs.Demand.{supercode}
 use Rattle.concatenated.specs.Format.{shortPage}
-use Rattle.concatenated.specs.Decode.{rows, Decoded, answered, refused}
+use Rattle.concatenated.specs.Decode.{rows, PageAnswer, answered, refused}
 use Rattle.concatenated.specs.Written.{bytesOfRows}
 use Rattle.page.specs.Outcomes.{changedTotals, erasedTotals}
 use Rattle.store_dumps.specs.Dumps.{readAnswer}
@@ -15,7 +15,7 @@ use Rattle.questions.specs.declared.Outcome.the-variants.{Done, Refused}
 use Rattle.listing.specs.Lines.{refusedLine, pageText}
 
 -- of page decoding: 10 has the level as its place
-unfoldable pub decodedText : Decoded → List ℕ
+unfoldable pub decodedText : PageAnswer → List ℕ
 decodedText (answered ls n) = pageText n (changedTotals ls) (erasedTotals ls) (bytesOfRows shortPage (rows ls))
 decodedText (refused l) = refusedLine 10 l
 

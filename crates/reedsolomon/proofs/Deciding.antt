@@ -10,7 +10,7 @@ use Rattle.poly.specs.Polynomial.{add}
 use Rattle.field.specs.Element.{mul, α, Primitive}
 use Rattle.reedsolomon.specs.Words.{Codeword, count, errors, InReach}
 use Rattle.reedsolomon.specs.Search.{OuterAnswer, Found, NoneInReach}
-use Rattle.reedsolomon.specs.Row.{symbol, Symbols, marked, IsCodeword, outerAnswer, isFound, wordOf, Decoded}
+use Rattle.reedsolomon.specs.Row.{symbol, Symbols, marked, IsCodeword, outerAnswer, isFound, wordOf, RowDecoded}
 use Rattle.reedsolomon.specs.Steps.{WrittenAt, Padded, HasSyndromes, IsCorrection}
 use Rattle.reedsolomon.proofs.Reach.{reach-of-equals, reach-bounds-erasures}
 use Rattle.reedsolomon.proofs.Syndromes.{codeword-of-equals}
@@ -22,11 +22,11 @@ use Rattle.reedsolomon.proofs.Remainders.{zeros-at}
 at-front : {N : ℕ} {f : ℕ → ℕ} {old new : List ℕ} → WrittenAt 0 N f old new → (j : ℕ) → j < N → symbol new j ≡ f j
 at-front {N} {f} {old} {new} w j l = let e : 0 + j ≡ j = omega arith in ap (symbol new) (sym e) ∙ w .written j l
 
-pub decoded-found : (a : OuterAnswer) (old new : List ℕ) → a ≡ Found new → Decoded a true old new
+pub decoded-found : (a : OuterAnswer) (old new : List ℕ) → a ≡ Found new → RowDecoded a true old new
 unfolding isFound wordOf
 decoded-found a old new e = record { told = sym (ap isFound e); written = sym (ap (wordOf old) e) }
 
-pub decoded-none : (a : OuterAnswer) (old : List ℕ) → a ≡ NoneInReach → Decoded a false old old
+pub decoded-none : (a : OuterAnswer) (old : List ℕ) → a ≡ NoneInReach → RowDecoded a false old old
 unfolding isFound wordOf
 decoded-none a old e = record { told = sym (ap isFound e); written = sym (ap (wordOf old) e) }
 

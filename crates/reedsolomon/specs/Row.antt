@@ -63,6 +63,6 @@ encodedRow m g N T d =
     wordOf [] (first (λ c. IsCodeword m g N T c × HasInFront N T d c) (λ c. both? (codeword? m g N T c) (hasInFront? N T d c)) (words (2 ^ m) N))
 
 -- What decoding gives: whether a word was found, and the word written in the place of the old one if there is one.
-pub record Decoded (answer : OuterAnswer) (found : Bool) (old new : List ℕ) : Type 0 where
+pub record RowDecoded (answer : OuterAnswer) (found : Bool) (old new : List ℕ) : Type 0 where
   pub told : found ≡ isFound answer
   pub written : new ≡ wordOf old answer

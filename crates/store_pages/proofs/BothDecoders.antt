@@ -11,7 +11,7 @@ use Rattle.trellis.specs.Values.{values}
 use Rattle.trellis.specs.Demand.{whole, supercode}
 use Rattle.concatenated.specs.Format.{shortPage}
 use Rattle.concatenated.specs.SoftPage.{softColumns}
-use Rattle.concatenated.specs.Decode.{Decoded, answered, refused}
+use Rattle.concatenated.specs.Decode.{PageAnswer, answered, refused}
 use Rattle.concatenated.specs.Readers.{Agree, NoneSpent, deadAhead, sumBelow, shortReader}
 use Rattle.concatenated.specs.OuterCode.{shortOuter}
 use Rattle.page.specs.Outcomes.{refusedPage, outcomeOf, dataAfter}
@@ -21,7 +21,7 @@ use Rattle.questions.specs.Questions.{ask, firstAbove}
 use Rattle.store_pages.specs.Pages.{decodedPage, askPage, PageDecoded}
 use Rattle.store_pages.specs.BothDecoders.{SameButSteps}
 
-outcomes-agree : (d : ℕ) (w s : Decoded) → Agree d w s → SameButSteps d (outcomeOf s) (outcomeOf w)
+outcomes-agree : (d : ℕ) (w s : PageAnswer) → Agree d w s → SameButSteps d (outcomeOf s) (outcomeOf w)
 unfolding outcomeOf
 outcomes-agree d (answered ls m) (answered ks n) e =
     record { number = refl; place = refl; changed = ap (λ l. outcomeOf (answered l n) .changed) (sym (e .0)); erased = ap (λ l. outcomeOf (answered l n) .erased) (sym (e .0)); steps = λ z. e .1 }
@@ -29,7 +29,7 @@ outcomes-agree d (answered ls m) (refused k) e = absurd e
 outcomes-agree d (refused l) (answered ks n) e = absurd e
 outcomes-agree d (refused l) (refused k) e = record { number = refl; place = sym e; changed = refl; erased = refl; steps = λ z. absurd (omega arith) }
 
-data-agree : (d : ℕ) (old : List ℕ) (w s : Decoded) → Agree d w s → dataAfter old s ≡ dataAfter old w
+data-agree : (d : ℕ) (old : List ℕ) (w s : PageAnswer) → Agree d w s → dataAfter old s ≡ dataAfter old w
 unfolding dataAfter
 data-agree d old (answered ls m) (answered ks n) e = ap (λ l. dataAfter old (answered l n)) (sym (e .0))
 data-agree d old (answered ls m) (refused k) e = absurd e

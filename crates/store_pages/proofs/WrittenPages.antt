@@ -8,7 +8,7 @@ use Rattle.dump.specs.Accepted.{Values}
 use Rattle.trellis.specs.Demand.{Search}
 use Rattle.concatenated.specs.Format.{shortPage}
 use Rattle.concatenated.specs.SoftPage.{softColumns}
-use Rattle.concatenated.specs.Decode.{Decoded, Level, answered, rows}
+use Rattle.concatenated.specs.Decode.{PageAnswer, Level, answered, rows}
 use Rattle.concatenated.specs.Written.{writtenRows, columnsOf, bytesOfRows}
 use Rattle.concatenated.specs.Misread.{WithinReach}
 use Rattle.concatenated.specs.Readers.{shortReader}
@@ -21,11 +21,11 @@ use Rattle.concatenated.proofs.Short.{written-page-comes-back}
 use Rattle.store_pages.specs.Pages.{decodedPage, askPage, PageDecoded}
 use Rattle.questions.proofs.AllInRange.{no-value-above}
 
-answered-number : (d : Decoded) (ls : List Level) (n : ℕ) → d ≡ answered ls n → outcomeOf d .number ≡ 0
+answered-number : (d : PageAnswer) (ls : List Level) (n : ℕ) → d ≡ answered ls n → outcomeOf d .number ≡ 0
 unfolding outcomeOf
 answered-number d ls n e = rw e refl
 
-answered-data : (old : List ℕ) (d : Decoded) (ls : List Level) (n : ℕ) → d ≡ answered ls n → dataAfter old d ≡ bytesOfRows shortPage (rows ls)
+answered-data : (old : List ℕ) (d : PageAnswer) (ls : List Level) (n : ℕ) → d ≡ answered ls n → dataAfter old d ≡ bytesOfRows shortPage (rows ls)
 unfolding dataAfter
 answered-data old d ls n e = rw e refl
 

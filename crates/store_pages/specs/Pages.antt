@@ -8,7 +8,7 @@ use Rattle.column.specs.Shape.{short}
 use Rattle.trellis.specs.Demand.{Search}
 use Rattle.concatenated.specs.Format.{shortPage}
 use Rattle.concatenated.specs.SoftPage.{softColumns}
-use Rattle.concatenated.specs.Decode.{Decoded, decoded}
+use Rattle.concatenated.specs.Decode.{PageAnswer, decoded}
 use Rattle.concatenated.specs.Readers.{shortReader}
 use Rattle.concatenated.specs.OuterCode.{shortOuter}
 use Rattle.page.specs.Outcomes.{refusedPage, outcomeOf, dataAfter}
@@ -25,7 +25,7 @@ encodePageAnswer bytes out =
     Done)
 
 -- page decoding with one of the two searches for every column at every level
-abbrev pub decodedPage : Search → List ℕ → ℕ → Decoded
+abbrev pub decodedPage : Search → List ℕ → ℕ → PageAnswer
 decodedPage s soft limit = decoded short shortOuter (shortReader s limit) (softColumns shortPage soft)
 
 -- 1: 1,890 values, 2: 150 places, 4: the limit 1..2,000, 5: each value 0..7; `refusal` gives what a no gives
