@@ -14,8 +14,7 @@ use Rattle.paths.specs.Dead.{dead-ahead}
 use Rattle.paths.proofs.Limit.{winner-within-the-limit-is-the-answer, winner-beyond-the-limit-spends-it}
 use Rattle.trellis.specs.Values.{Values}
 use Rattle.trellis.specs.Order.{number}
-use Rattle.trellis.specs.Trellis.{wholeTrellis, supercodeTrellis}
-use Rattle.trellis.specs.Demand.{Search as Kind, whole, supercode, trellis, AheadOfAll}
+use Rattle.trellis.specs.Demand.{Search as Kind, whole, supercode, trellis, wholeTrellis, supercodeTrellis, AheadOfAll}
 use Rattle.trellis.proofs.Demand.{Searchable, trellis-sound, winner-is-ahead-of-all, one-codeword-is-ahead-of-all, ranks-differ-by-the-dead-ahead, no-dead-ahead}
 use Rattle.trellis.proofs.Demand
 use Rattle.concatenated.specs.Lists.{All}

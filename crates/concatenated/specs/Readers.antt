@@ -9,8 +9,8 @@ use Rattle.paths.specs.Search.{Outcome, answer, limited-search}
 use Rattle.paths.specs.Search
 use Rattle.paths.specs.Dead.{dead-ahead}
 use Rattle.trellis.specs.Values.{Values, values}
-use Rattle.trellis.specs.Trellis.{wholeTrellis, supercodeTrellis, searched}
-use Rattle.trellis.specs.Demand.{Search as Kind, trellis}
+use Rattle.trellis.specs.Trellis.{searched}
+use Rattle.trellis.specs.Demand.{Search as Kind, trellis, wholeTrellis, supercodeTrellis}
 use Rattle.concatenated.specs.Lists.{All, sum}
 use Rattle.concatenated.specs.Outer.{RowDecoder}
 use Rattle.concatenated.specs.Decode.{Reading, found, spent, Reader, mark, State, going, stopped, PageAnswer, answered, refused, run, AtEveryLevel}

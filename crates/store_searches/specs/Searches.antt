@@ -1,8 +1,9 @@
 -- The answers of the column searches. Assumes nothing.
 use mathlib.Core.List.{List}
-use Prim.Native.Nat.{ℕ}
+use mathlib.Core.Path.{_≡_}
+use Prim.Native.Nat.{ℕ, _≤_, _<_}
 use lib.Dec.{eqb, ltb, leb}
-use lib.ListN.{length}
+use lib.ListN.{length, getD}
 use Rattle.column.specs.Shape.{short}
 use Rattle.paths.specs.Search.{Outcome, answer, spent}
 use Rattle.trellis.specs.Values.{values}
@@ -28,6 +29,18 @@ word (Refused n p) = 0
 abbrev pub count : SearchAnswer → ℕ
 count (Found w c) = c
 count (Refused n p) = 0
+
+-- an answer's number, place, word and count
+abbrev pub Is : SearchAnswer → ℕ → ℕ → ℕ → ℕ → Type 0
+Is a n p w c = (number a ≡ n) × (place a ≡ p) × (word a ≡ w) × (count a ≡ c)
+
+-- demand 3: an "allowed soft column, level and limit": questions 1, 3, 4 and 5 are answered yes
+pub record Allowed (soft : List ℕ) (i limit : ℕ) : Type 0 where
+  pub full : length soft ≡ 30
+  pub level : i < 4
+  pub some : 1 ≤ limit
+  pub most : limit ≤ 2000
+  pub range : (k : ℕ) → k < 30 → getD soft k 0 ≤ 7
 
 -- 9: "Did a column search end within the limit?"
 unfoldable pub outcomeAnswer : Outcome ℕ → SearchAnswer

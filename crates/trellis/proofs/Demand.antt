@@ -25,8 +25,8 @@ use Rattle.paths.proofs.Dead.{numbers-differ-by-the-dead-ahead}
 use Rattle.paths.proofs.Steps
 use Rattle.trellis.specs.Values.{Values}
 use Rattle.trellis.specs.Order.{number, before}
-use Rattle.trellis.specs.Trellis.{wholeTrellis, supercodeTrellis, searched}
-use Rattle.trellis.specs.Demand.{Search, whole, supercode, trellis, ExistsFor, Codeword, AheadOfAll}
+use Rattle.trellis.specs.Trellis.{searched}
+use Rattle.trellis.specs.Demand.{Search, whole, supercode, trellis, wholeTrellis, supercodeTrellis, ExistsFor, Codeword, AheadOfAll}
 use Rattle.trellis.proofs.Existence.{whole-exists-exactly, supercode-exists-exactly}
 use Rattle.trellis.proofs.Sound.{whole-sound, supercode-sound, whole-within-supercode, full-is-codeword-in-whole, full-is-codeword-in-supercode}
 
@@ -61,24 +61,17 @@ module _ (S : Shape) (i : ℕ) (given : Searchable S i) (vs : Values) (soft : Li
       pair whole = full-is-codeword-in-whole S (given .some-bits) vs soft i (given .sound) (given .level) w
       pair supercode = full-is-codeword-in-supercode S (given .some-bits) vs soft i (given .split) w
 
-  same-order : (s : Search) → trellis s S vs soft i .before ≡ before vs soft
-  same-order whole = refl
-  same-order supercode = refl
-
-  same-ahead : (s : Search) (p w : Path) → ahead (trellis s S vs soft i .before) p w ≡ ahead (before vs soft) p w
-  same-ahead s p w = ap (λ (order : Path → Path → Bool). ahead order p w) (same-order s)
-
   -- ---- (1) one codeword is ahead of all others, the same for both searches and every limit
 
   pub winner-is-ahead-of-all : (s : Search) (w : Path) → Winner (trellis s S vs soft i) w ↔ AheadOfAll S vs soft i w
   winner-is-ahead-of-all s w = (
     λ win. record {
       codeword = full-is-codeword s w .0 (win .full);
-      ahead-of = λ v c ne. sym (same-ahead s w v) ∙ win .ahead-of v (full-is-codeword s v .1 c) ne;
+      ahead-of = λ v c. win .ahead-of v (full-is-codeword s v .1 c);
     },
     λ best. record {
       full = full-is-codeword s w .1 (best .codeword);
-      ahead-of = λ v f ne. same-ahead s w v ∙ best .ahead-of v (full-is-codeword s v .0 f) ne;
+      ahead-of = λ v f. best .ahead-of v (full-is-codeword s v .0 f);
     },
   )
 
@@ -99,12 +92,12 @@ module _ (S : Shape) (i : ℕ) (given : Searchable S i) (vs : Values) (soft : Li
   unfolding counted
   counted-exactly s w p = (
     λ e.
-        let h = and-both (trellis s S vs soft i .exists p) (prefix p w || ahead (trellis s S vs soft i .before) p w) e in
+        let h = and-both (trellis s S vs soft i .exists p) (prefix p w || ahead (before vs soft) p w) e in
         let x = exists-for-exactly s p .0 (h .0) in
-        (x .0, x .1, ⊎-elim (λ k. inl k) (λ k. inr (sym (same-ahead s p w) ∙ k)) (or-either (prefix p w) (ahead (trellis s S vs soft i .before) p w) (h .1))),
+        (x .0, x .1, or-either (prefix p w) (ahead (before vs soft) p w) (h .1)),
     λ h.
-        both-and (trellis s S vs soft i .exists p) (prefix p w || ahead (trellis s S vs soft i .before) p w) (exists-for-exactly s p .1 (h .0, h .1))
-        (either-or (prefix p w) (ahead (trellis s S vs soft i .before) p w) (⊎-elim (λ k. inl k) (λ k. inr (same-ahead s p w ∙ k)) (h .2))),
+        both-and (trellis s S vs soft i .exists p) (prefix p w || ahead (before vs soft) p w) (exists-for-exactly s p .1 (h .0, h .1))
+        (either-or (prefix p w) (ahead (before vs soft) p w) (h .2)),
   )
 
   -- ---- (3) the outcome of a search

@@ -18,7 +18,8 @@ use Rattle.paths.specs.Paths.{Path}
 use Rattle.paths.proofs.Booleans.{and-both, both-and}
 use Rattle.trellis.specs.Values.{Values}
 use Rattle.trellis.specs.Order.{number}
-use Rattle.trellis.specs.Trellis.{existsIn, wholeTrellis, supercodeTrellis}
+use Rattle.trellis.specs.Trellis.{existsIn}
+use Rattle.trellis.specs.Demand.{wholeTrellis, supercodeTrellis}
 use Rattle.trellis.proofs.Order.{number-below}
 
 true-holds : (b : Bool) → b ≡ true → T b

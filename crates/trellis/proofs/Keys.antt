@@ -26,7 +26,8 @@ use Rattle.paths.proofs.Keys.{search-on-keys-is-search-on-paths}
 use Rattle.trellis.specs.Values.{Values}
 use Rattle.trellis.specs.Order.{bit, number, sum, before}
 use Rattle.trellis.specs.Keys.{Key, keyOf, keyExtension, keyPasses, keyNodes, keySearch}
-use Rattle.trellis.specs.Trellis.{existsIn, wholeTrellis, supercodeTrellis, searched}
+use Rattle.trellis.specs.Trellis.{existsIn, searched}
+use Rattle.trellis.specs.Demand.{wholeTrellis, supercodeTrellis}
 use Rattle.trellis.proofs.Order.{before-keys, bit-below}
 use Rattle.trellis.proofs.Existence.{exists-exactly}
 

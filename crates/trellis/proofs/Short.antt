@@ -16,10 +16,10 @@ use Rattle.paths.specs.Dead.{dead-ahead}
 use Rattle.trellis.specs.Values.{values}
 use Rattle.trellis.specs.Order.{number}
 use Rattle.trellis.specs.Keys.{keyOf, keyNodes, keySearch}
-use Rattle.trellis.specs.Trellis.{wholeTrellis, supercodeTrellis, searched}
+use Rattle.trellis.specs.Trellis.{searched}
 use Rattle.trellis.proofs.Keys.{keys-of-whole, keys-of-supercode, by-bits, key-search-is-search}
 use Rattle.trellis.proofs.Demand as Demand
-use Rattle.trellis.specs.Demand.{Search, whole, supercode, trellis, AheadOfAll}
+use Rattle.trellis.specs.Demand.{Search, whole, supercode, trellis, wholeTrellis, supercodeTrellis, AheadOfAll}
 use Rattle.trellis.proofs.Demand.{Searchable, trellis-sound}
 
 pub searchable : (i : ℕ) → i < 4 → Searchable short i

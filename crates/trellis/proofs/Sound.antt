@@ -16,7 +16,7 @@ use Rattle.paths.specs.Tree.{Tree, Full, Sound}
 use Rattle.paths.specs.Dead.{Within}
 use Rattle.trellis.specs.Values.{Values}
 use Rattle.trellis.specs.Order.{number}
-use Rattle.trellis.specs.Trellis.{wholeTrellis, supercodeTrellis}
+use Rattle.trellis.specs.Demand.{wholeTrellis, supercodeTrellis}
 use Rattle.trellis.proofs.Order.{order, number-half}
 use Rattle.trellis.proofs.Existence.{whole-exists-exactly, supercode-exists-exactly}
 

@@ -1,0 +1,63 @@
+-- Demand 3 of the two column calls, in 01's number, place, word and count. Assumes nothing.
+use mathlib.Core.List.{List}
+use mathlib.Core.Logic.{_↔_}
+use mathlib.Core.Path.{_≡_, refl, sym, ap, _∙_}
+use Prim.Native.Nat.{ℕ, _≤_, _<_}
+use native.Mathlib.Decide.{decLe}
+use native.Mathlib.Omega.{arith}
+use lib.ListN.{length}
+use borrow.Author.Tests.{eq-eqb, lt-ltb, le-leb}
+use Rattle.column.specs.Shape.{short}
+use Rattle.paths.specs.Lists.{Lists}
+use Rattle.paths.specs.Paths.{Path}
+use Rattle.paths.specs.Tree.{number as rank}
+use Rattle.trellis.specs.Values.{values}
+use Rattle.trellis.specs.Order.{number as columnOf}
+use Rattle.trellis.specs.Trellis.{searched}
+use Rattle.trellis.specs.Demand.{Search, trellis, AheadOfAll, Counted}
+use Rattle.trellis.proofs.Counts.{rank-counts, rank-is-a-number-of-paths}
+use Rattle.trellis.proofs.Short.{searchable, one-codeword-is-ahead-of-all, answers-within-the-limit, is-spent-above-the-limit}
+use Rattle.questions.proofs.AllInRange.{no-value-above}
+use Rattle.store_searches.specs.Searches.{number, place, word, count, Is, Allowed, outcomeAnswer, searchAnswer}
+use Rattle.store_searches.specs.declared.SearchAnswer.the-variants.{Found, Refused}
+
+module _ (s : Search) (soft : List ℕ) (level limit : ℕ) (allowed : Allowed soft level limit) where
+  -- only question 9 is left
+  pub asked : searchAnswer s soft level limit ≡ outcomeAnswer (searched (trellis s short values soft level) limit)
+  asked =
+      rw (eq-eqb (length soft) 30 (allowed .full), lt-ltb level 4 (allowed .level), le-leb 1 limit (allowed .some), le-leb limit 2000 (allowed .most), no-value-above soft 30 7 (allowed .full) (allowed .range))
+
+  -- one codeword is ahead of all others, and the search's paths that are prefixes of it or ahead of it can be listed
+  pub one-word-and-its-paths : (w : Path) × AheadOfAll short values soft level w × ((v : Path) → AheadOfAll short values soft level v → v ≡ w) × (ps : List Path) × Lists (Counted s short values soft level w) ps
+  one-word-and-its-paths =
+      let best = one-codeword-is-ahead-of-all level (allowed .level) soft in
+      let paths = rank-is-a-number-of-paths short level (searchable level (allowed .level)) values soft (best .0) s in
+      (best .0, best .1, best .2, paths .0, paths .1)
+
+  -- w is that codeword, and ps a list of these paths
+  module _ (w : Path) (best : AheadOfAll short values soft level w) (ps : List Path) (listed : Lists (Counted s short values soft level w) ps) where
+    many : length ps ≡ rank (trellis s short values soft level) w
+    many = rank-counts short level (searchable level (allowed .level)) values soft w s ps listed
+
+    pub call-answers-within-the-limit : length ps ≤ limit
+        → (searchAnswer s soft level limit ≡ Found (columnOf w) (length ps)) × Is (searchAnswer s soft level limit) 0 0 (columnOf w) (length ps)
+    unfolding outcomeAnswer
+    call-answers-within-the-limit l =
+        let found : searchAnswer s soft level limit ≡ Found (columnOf w) (length ps) =
+        asked ∙ ap outcomeAnswer (answers-within-the-limit level (allowed .level) soft s w best limit (omega (arith, many))) ∙ ap (Found (columnOf w)) (sym many) in
+        (found, (ap number found, ap place found, ap word found, ap count found))
+
+    pub call-refuses-above-the-limit : limit < length ps → (searchAnswer s soft level limit ≡ Refused 9 0) × Is (searchAnswer s soft level limit) 9 0 0 0
+    unfolding outcomeAnswer
+    call-refuses-above-the-limit l =
+        let refused : searchAnswer s soft level limit ≡ Refused 9 0 =
+        asked ∙ ap outcomeAnswer (is-spent-above-the-limit level (allowed .level) soft s w best limit (omega (arith, many))) in
+        (refused, (ap number refused, ap place refused, ap word refused, ap count refused))
+
+    -- demand 3: "the search is spent exactly when that number would be above its limit"
+    pub call-is-9-exactly-above-the-limit : (number (searchAnswer s soft level limit) ≡ 9) ↔ (limit < length ps)
+    call-is-9-exactly-above-the-limit = (λ nine. go nine (decLe (length ps) limit), λ l. call-refuses-above-the-limit l .1 .0)
+      where
+        go : number (searchAnswer s soft level limit) ≡ 9 → Dec (length ps ≤ limit) → limit < length ps
+        go nine (yes l) = let zero : number (searchAnswer s soft level limit) ≡ 0 = call-answers-within-the-limit l .1 .0 in absurd (omega (arith, nine, zero))
+        go nine (no l) = omega arith
