@@ -1,4 +1,4 @@
--- Source document 001's code of four bits and its two trellises. Assumes nothing.
+-- 01: source document 001's code of four bits and its two trellises. Assumes nothing.
 use mathlib.Core.Bool.{Bool, true, false, _&&_, _||_}
 use mathlib.Core.List.{List, [], _∷_}
 use Prim.Native.Nat.{ℕ, _-_, _/_, _^_}
@@ -6,6 +6,7 @@ use lib.Dec.{eqb, leb}
 use lib.IntN.{pos, negsuc}
 use lib.ListN.{length, replicate}
 use Rattle.column.specs.Mask.{parity}
+use Rattle.paths.specs.Lists.{filter}
 use Rattle.paths.specs.Paths.{Path}
 use Rattle.paths.specs.Tree.{Tree}
 use Rattle.trellis.specs.Values.{Values}
@@ -25,17 +26,16 @@ fits row w = eqb (parity row w) 0
 abbrev pub fourBitWords : List ℕ
 fourBitWords = 0 ∷ 1 ∷ 2 ∷ 3 ∷ 4 ∷ 5 ∷ 6 ∷ 7 ∷ 8 ∷ 9 ∷ 10 ∷ 11 ∷ 12 ∷ 13 ∷ 14 ∷ 15 ∷ []
 
--- 0000 0101 1011 1110
+-- the code's words: 0000 0101 1011 1110
 abbrev pub wholeWords : List ℕ
-wholeWords = 0 ∷ 5 ∷ 11 ∷ 14 ∷ []
+wholeWords = filter (λ w. fits topRow w && fits lowRow w) fourBitWords
 
--- 0000 0010 0101 0111 1001 1011 1100 1110
+-- the words of each row's supercode
 abbrev pub topWords : List ℕ
-topWords = 0 ∷ 2 ∷ 5 ∷ 7 ∷ 9 ∷ 11 ∷ 12 ∷ 14 ∷ []
+topWords = filter (fits topRow) fourBitWords
 
--- 0000 0011 0101 0110 1000 1011 1101 1110
 abbrev pub lowWords : List ℕ
-lowWords = 0 ∷ 3 ∷ 5 ∷ 6 ∷ 8 ∷ 11 ∷ 13 ∷ 14 ∷ []
+lowWords = filter (fits lowRow) fourBitWords
 
 -- a path of at most four bits begins some word of the list
 unfoldable pub beginsSome : List ℕ → Path → Bool

@@ -2,39 +2,61 @@
 use mathlib.Core.Bool.{Bool, true, false}
 use mathlib.Core.List.{List, [], _∷_}
 use mathlib.Core.Path.{_≡_}
-use Prim.Native.Nat.{ℕ}
-use lib.IntN.{negsuc}
+use Prim.Native.Nat.{ℕ, _<_}
+use lib.IntN.{ℤ, negsuc}
 use lib.ListN.{replicate}
 use Rattle.field.specs.Element.{power, α}
 use Rattle.column.specs.Shape.{short}
 use Rattle.column.specs.Level.{columnOf}
 use Rattle.packing.specs.Packing.{bytesOf}
 use Rattle.concatenated.specs.Soft.{takenOffBy}
+use Rattle.paths.specs.Paths.{Path}
 use Rattle.paths.specs.Search.{Outcome, answer, spent}
-use Rattle.trellis.specs.Values.{values}
-use Rattle.trellis.specs.Keys.{key, keyBefore}
-use Rattle.trellis.specs.Demand.{Search, whole, supercode, trellis}
+use Rattle.trellis.specs.Values.{Values, values}
+use Rattle.trellis.specs.Order.{sum, before}
+use Rattle.trellis.specs.Demand.{Search, whole, supercode}
 use Rattle.trellis.specs.Trellis.{searched}
+use Rattle.store_searches.specs.Searches.{Is, searchAnswer}
+use Rattle.store_searches.specs.declared.SearchAnswer.{SearchAnswer}
 use Rattle.known.specs.FourBits.{fourBitWhole, fourBitSupercode, valuesOf001, softOf001, noValues, path001}
 
--- what the definitions give, and what 01 says: a number, a truth, or the outcome of a search
+-- what the definitions give, and what 01 says of it
 pub data Case : Type 0 where
   number : ℕ → ℕ → Case
+  integer : ℤ → ℤ → Case
   truth : Bool → Bool → Case
   outcome : Outcome ℕ → Outcome ℕ → Case
+  -- of all paths, those with the one sum stand before those with the other
+  sums : ℤ → ℤ → Case
+  -- a call's number, place, word and count, at each level
+  levels : (ℕ → SearchAnswer) → ℕ → ℕ → ℕ → ℕ → Case
 
 abbrev pub Holds : Case → Type 0
 Holds (number found known) = found ≡ known
+Holds (integer found known) = found ≡ known
 Holds (truth found known) = found ≡ known
 Holds (outcome found known) = found ≡ known
+Holds (sums x y) = (vs : Values) (soft : List ℕ) (p q : Path) → sum vs soft p ≡ x → sum vs soft q ≡ y → (before vs soft p q ≡ true) × (before vs soft q p ≡ false)
+Holds (levels call n p w c) = (i : ℕ) → i < 4 → Is (call i) n p w c
 
 abbrev pub AllHold : List Case → Type 0
 AllHold [] = Unit {0}
 AllHold (c ∷ cs) = Holds c × AllHold cs
 
--- the all-zero column at a level: limit 30 gives 0 in 30 steps; limit 29 gives 9
-abbrev pub zeroColumn : Search → ℕ → ℕ → Outcome ℕ
-zeroColumn s i limit = searched (trellis s short values (replicate 30 0) i) limit
+-- the call on the all-zero column
+abbrev pub zeroColumn : Search → ℕ → ℕ → SearchAnswer
+zeroColumn s limit i = searchAnswer s (replicate 30 0) i limit
+
+-- three zeros that are the least sure, and a sure one
+abbrev pub unsure : List ℕ
+unsure = 3 ∷ 3 ∷ 3 ∷ 0 ∷ []
+
+-- the newest bit stands first
+abbrev pub path11 : Path
+path11 = true ∷ true ∷ []
+
+abbrev pub path1010 : Path
+path1010 = false ∷ true ∷ false ∷ true ∷ []
 
 abbrev pub cases : List Case
 cases =
@@ -60,23 +82,14 @@ cases =
     -- the same code, all values 0: 0000, count 4 both ways
     ∷ outcome (searched (fourBitWhole noValues softOf001) 4) (answer 0 4)
     ∷ outcome (searched (fourBitSupercode noValues softOf001) 4) (answer 0 4)
-    -- a sum of −22 stands before −25
-    ∷ truth (keyBefore (key (negsuc 21) 3 0) (key (negsuc 24) 2 1)) true
-    -- the all-zero column, each level, both searches
-    ∷ outcome (zeroColumn whole 0 30) (answer 0 30)
-    ∷ outcome (zeroColumn whole 1 30) (answer 0 30)
-    ∷ outcome (zeroColumn whole 2 30) (answer 0 30)
-    ∷ outcome (zeroColumn whole 3 30) (answer 0 30)
-    ∷ outcome (zeroColumn supercode 0 30) (answer 0 30)
-    ∷ outcome (zeroColumn supercode 1 30) (answer 0 30)
-    ∷ outcome (zeroColumn supercode 2 30) (answer 0 30)
-    ∷ outcome (zeroColumn supercode 3 30) (answer 0 30)
-    ∷ outcome (zeroColumn whole 0 29) (spent 29)
-    ∷ outcome (zeroColumn whole 1 29) (spent 29)
-    ∷ outcome (zeroColumn whole 2 29) (spent 29)
-    ∷ outcome (zeroColumn whole 3 29) (spent 29)
-    ∷ outcome (zeroColumn supercode 0 29) (spent 29)
-    ∷ outcome (zeroColumn supercode 1 29) (spent 29)
-    ∷ outcome (zeroColumn supercode 2 29) (spent 29)
-    ∷ outcome (zeroColumn supercode 3 29) (spent 29)
+    -- a sum of −22 stands before −25; by 01's values the path 11 with −22 before the longer path 1010 with −25
+    ∷ sums (negsuc 21) (negsuc 24)
+    ∷ integer (sum values unsure path11) (negsuc 21)
+    ∷ integer (sum values unsure path1010) (negsuc 24)
+    ∷ truth (before values unsure path11 path1010) true
+    -- the all-zero column, each level, both searches: limit 30 gives 0 in 30 steps; limit 29 gives 9
+    ∷ levels (zeroColumn whole 30) 0 0 0 30
+    ∷ levels (zeroColumn supercode 30) 0 0 0 30
+    ∷ levels (zeroColumn whole 29) 9 0 0 0
+    ∷ levels (zeroColumn supercode 29) 9 0 0 0
     ∷ []
