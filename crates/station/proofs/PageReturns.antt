@@ -6,7 +6,7 @@ use Prim.Native.Nat.{ℕ}
 use borrow.Author.Tests.{eq-eqb, ne-eqb}
 use lib.Dec.{eqb}
 use lib.ListN.{length}
-use Rattle.trellis.specs.Demand.{supercode}
+use Rattle.trellis.specs.Demand.{Search, supercode}
 use Rattle.page.specs.Outcomes.{refusedPage}
 use Rattle.page.specs.declared.PageOutcome.{PageOutcome}
 use Rattle.questions.specs.Questions.{ask}
@@ -17,8 +17,8 @@ use Rattle.station.specs.PageReturned.{PageReturned, limit, askDecode, d
 use Rattle.station.proofs.Places.{SmallPage, page-small}
 
 -- what page decoding answers fits in what the entry returns
-pub small : (soft bytes : List ℕ) (o : PageOutcome) (new : List ℕ) → PageDecoded supercode soft limit bytes o new → SmallPage o
-small soft bytes o new page = subst⁻¹ SmallPage (page .answer) (page-small supercode soft limit bytes)
+pub small : {s : Search} {soft old new : List ℕ} {most : ℕ} {o : PageOutcome} → PageDecoded s soft most old o new → SmallPage o
+small {s} {soft} {old} {most = most} page = subst⁻¹ SmallPage (page .answer) (page-small s soft most old)
 
 -- two questions that were answered yes
 passed : {A : Type 0} (t u : Bool) (first second next : A) → t ≡ true → u ≡ true → ask t first (ask u second next) ≡ next

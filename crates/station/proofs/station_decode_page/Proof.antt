@@ -24,7 +24,7 @@ decode-page-requires : tie.Need-decode-page-requires
 decode-page-requires c κs = search needs
 
 returned-number-requires-3 : tie.Need-returned-number-requires-3
-returned-number-requires-3 c κs = small _ _ _ _ (c .before .before .before .decode-page .ensures)
+returned-number-requires-3 c κs = small (c .before .before .before .decode-page .ensures)
 
 same-length : tie.Need-same-length
 same-length c = search needs
@@ -48,7 +48,7 @@ copy-requires c κs =
     omega (arith, ap length (made .report-of .ensures), asked .if2 .left)
 
 returned-number-requires-4 : tie.Need-returned-number-requires-4
-returned-number-requires-4 c κs = small _ _ _ _ (c .before .before .before .before .before .before .before .before .before .decode-page .ensures)
+returned-number-requires-4 c κs = small (c .before .before .before .before .before .before .before .before .before .decode-page .ensures)
 
 same-length-2 : tie.Need-same-length-2
 same-length-2 c = search needs
