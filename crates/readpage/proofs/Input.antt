@@ -9,7 +9,7 @@ use lib.ListN.{length, take}
 use lib.Seq.{take-all, length-take-le}
 use Rattle.listing.specs.Lines.{refusedLine}
 use Rattle.readpage.specs.Report.{outputOf}
-use Rattle.readpage.specs.Input.{WasRead, PrintedFor}
+use Rattle.readpage.specs.Input.{PrintedFor}
 
 pub other-lengths-give-one : (input : List ℕ) → (length input ≡ 2048 → ⊥) → outputOf input ≡ refusedLine 1 0
 unfolding outputOf
@@ -26,5 +26,5 @@ one-byte-more-is-enough input room more =
     ]
 
 -- so what was read settles what is printed
-pub printed-for : (buffer : List ℕ) (n : ℕ) (text : List ℕ) → 2048 < length buffer → text ≡ outputOf (take n buffer) → PrintedFor buffer n text
-printed-for buffer n text more e input read = e ∙ ap outputOf (sym read) ∙ one-byte-more-is-enough input (length buffer) more
+pub printed-for : (buffer : List ℕ) (n : ℕ) → 2048 < length buffer → {text : List ℕ} → text ≡ outputOf (take n buffer) → PrintedFor buffer n text
+printed-for buffer n more e input read = e ∙ ap outputOf (sym read) ∙ one-byte-more-is-enough input (length buffer) more

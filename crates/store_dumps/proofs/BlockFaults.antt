@@ -1,10 +1,10 @@
 -- Questions 7 and 8 by the number that asking a block gives: of faults in two blocks the lower block's is named. Assumes nothing.
 use mathlib.Core.Path.{_≡_, refl, ap, _∙_, sym}
-use mathlib.Core.Bool.{Bool, true, false, not}
+use mathlib.Core.Bool.{Bool, true, false}
 use mathlib.Core.List.{List}
-use Prim.Native.Nat.{ℕ, _<_}
+use Prim.Native.Nat.{ℕ, _<_, _≤_}
 use native.Mathlib.Omega.{arith}
-use borrow.Author.Tests.{not-true, not-false, eq-eqb}
+use borrow.Author.Tests.{eq-eqb, lt-leb, le-leb}
 use lib.Dec.{leb}
 use lib.ListN.{length}
 use Rattle.dump.specs.Block.{fixedRight, checkRight}
@@ -16,14 +16,13 @@ use Rattle.questions.specs.declared.Outcome.{Outcome}
 use Rattle.questions.specs.declared.Outcome.the-variants.{Done, Refused}
 use Rattle.store_dumps.proofs.BlockByBlock.{each-passed, each-refused}
 
--- a test of a part of the dump, as a call was told it: t is what the call gave of s, which is the part s′
-pub told-no : (test : List ℕ → Bool) (s s′ : List ℕ) (t : Bool) → t ≡ test s → s ≡ s′ → not t ≡ true → test s′ ≡ false
-told-no test s s′ t e same h = ap test (sym same) ∙ sym e ∙ not-true t h
-
-pub told-yes : (test : List ℕ → Bool) (s s′ : List ℕ) (t : Bool) → t ≡ test s → s ≡ s′ → not t ≡ false → test s′ ≡ true
-told-yes test s s′ t e same h = ap test (sym same) ∙ sym e ∙ not-false t h
-
 module _ (dump : List ℕ) (b : ℕ) where
+  -- the number by the two tests of a part that is the block
+  pub block-number : {part : List ℕ} {fixed check : Bool} → part ≡ blockAt dump b → fixed ≡ fixedRight part b → check ≡ checkRight part
+      → number (askBlock dump b Done) ≡ number (ask fixed (Refused 7 b) (ask check (Refused 8 b) Done))
+  unfolding askFixed askCheck
+  block-number e f g = simp (f, g, e)
+
   -- the number is not 0: the block is refused by it, whatever would follow
   pub block-refused : {n : ℕ} → n ≡ number (askBlock dump b Done) → (n ≡ 0 → ⊥) → (next : Outcome) → askBlock dump b next ≡ Refused n b
   unfolding askFixed askCheck
@@ -52,7 +51,13 @@ module _ (dump : List ℕ) where
       let stops = each-refused (askBlock dump) 4 b (Refused n b) inside (λ a h. block-passed dump a refl (good a h)) (block-refused dump b e bad) in
       simp (eq-eqb _ _ size, eq-eqb _ _ room, stops)
 
-  -- every block passes: the values are asked
-  pub values-are-asked-last : (out : List ℕ) → length dump ≡ 2048 → length out ≡ 1890 → ((b : ℕ) → b < 4 → number (askBlock dump b Done) ≡ 0)
-      → readAnswer dump out ≡ ask (leb 1890 (firstAbove (softOf dump) 7)) (Refused 5 (firstAbove (softOf dump) 7)) Done
-  values-are-asked-last out size room good = simp (eq-eqb _ _ size, eq-eqb _ _ room, each-passed (askBlock dump) 4 (λ b h. block-passed dump b refl (good b h)))
+  module _ (out : List ℕ) (size : length dump ≡ 2048) (room : length out ≡ 1890) (good : (b : ℕ) → b < 4 → number (askBlock dump b Done) ≡ 0) {values : List ℕ} {first : ℕ} (is : values ≡ softOf dump) (found : first ≡ firstAbove values 7) where
+    -- every block passes: the values are asked
+    values-asked : readAnswer dump out ≡ ask (leb 1890 first) (Refused 5 first) Done
+    values-asked = simp (eq-eqb _ _ size, eq-eqb _ _ room, each-passed (askBlock dump) 4 (λ b h. block-passed dump b refl (good b h)), found, is)
+
+    pub value-refused : first < 1890 → readAnswer dump out ≡ Refused 5 first
+    value-refused bad = values-asked ∙ simp (lt-leb _ _ bad)
+
+    pub values-passed : 1890 ≤ first → readAnswer dump out ≡ Done
+    values-passed fine = values-asked ∙ simp (le-leb _ _ fine)

@@ -46,9 +46,7 @@ returns c =
     let start = c .before .before .before .before .before .before .before .before .before .before .before .before .before in
     let told = c .before .before .before .before .before .enum-told .given .1 in
     let text = c .before .before .page-text .ensures in
-    let buffer = start .args .input .now in
-    let n = start .args .n in
-    (counted text (start .pre .2), printed-for buffer n _ (start .pre .0) (text .bytes ∙ output-read (take n buffer) _ _ (read .ensures) told))
+    (counted text (start .pre .2), printed-for (start .args .input .now) (start .args .n) (start .pre .0) (text .bytes ∙ output-read _ _ _ (read .ensures) told))
 
 same-length-2 : tie.Need-same-length-2
 same-length-2 c = search needs
@@ -59,9 +57,7 @@ returns-2 c =
     let start = c .before .before .before .before .before .before .before .before .before .before .before .before .before in
     let told = c .before .before .before .before .before .number .given .1 in
     let text = c .before .before .append-refused .ensures in
-    let buffer = start .args .input .now in
-    let n = start .args .n in
-    (counted text (omega (arith, start .pre .2)), printed-for buffer n _ (start .pre .0) (text .bytes ∙ output-refused (take n buffer) _ _ _ _ (read .ensures) told))
+    (counted text (omega (arith, start .pre .2)), printed-for (start .args .input .now) (start .args .n) (start .pre .0) (text .bytes ∙ output-refused _ _ _ _ _ (read .ensures) told))
 
 pub output-of-spec : {M : Type 1} → statement M
 output-of-spec =

@@ -1,13 +1,10 @@
 -- `store_dumps::ask_block` meets its contract: each return rewrites with what the two tests of the block gave. Assumes nothing.
-use mathlib.Core.Path.{_∙_, ap}
-use mathlib.Core.List.{List}
-use Prim.Native.Nat.{ℕ}
+use mathlib.Core.Path.{refl, _∙_, ap, sym}
 use lib.ListN.{length}
 use borrow.Author.Needs.{needs}
-use Rattle.dump.specs.Block.{fixedRight, checkRight}
+use borrow.Author.Tests.{not-true, not-false}
 use Rattle.dump.proofs.Blocks.{length-of-block}
-use Rattle.store_dumps.specs.Dumps.{askFixed, askCheck}
-use Rattle.store_dumps.proofs.BlockFaults.{told-no, told-yes}
+use Rattle.store_dumps.proofs.BlockFaults.{block-number}
 use Rattle.store_dumps.proofs.ask_block.Statement.{statement}
 use Rattle.store_dumps.proofs.ask_block.Tie as tie
 
@@ -20,11 +17,9 @@ fixed-right-requires c κs =
     (ap length (c .block-at .ensures) ∙ length-of-block (start .args .dump .now) (start .args .b) (start .pre .0) (start .pre .1), search needs)
 
 returns : tie.Need-returns
-unfolding askFixed askCheck
 returns c =
-    let taken = c .before .before .block-at in
-    let b = c .before .before .before .before .args .b in
-    simp (told-no (λ (s : List ℕ). fixedRight s b) _ _ _ (c .before .fixed-right .ensures) (taken .ensures) (c .if1 .taken))
+    let taken = c .before .before in
+    sym (block-number _ _ (taken .block-at .ensures) (c .before .fixed-right .ensures) refl ∙ simp (not-true (c .before .fixed-right .result) (c .if1 .taken)))
 
 check-right-requires : tie.Need-check-right-requires
 check-right-requires c κs =
@@ -33,22 +28,18 @@ check-right-requires c κs =
     ap length (taken .block-at .ensures) ∙ length-of-block (start .args .dump .now) (start .args .b) (start .pre .0) (start .pre .1)
 
 returns-2 : tie.Need-returns-2
-unfolding askFixed askCheck
 returns-2 c =
     let passed = c .before .before in
-    let taken = passed .before .before .block-at in
-    let b = passed .before .before .before .before .args .b in
-    let seven = told-yes (λ (s : List ℕ). fixedRight s b) _ _ _ (passed .before .fixed-right .ensures) (taken .ensures) (passed .if1 .left) in
-    simp (seven, told-no checkRight _ _ _ (c .before .check-right .ensures) (taken .ensures) (c .if2 .taken))
+    let taken = passed .before .before in
+    let told = block-number _ _ (taken .block-at .ensures) (passed .before .fixed-right .ensures) (c .before .check-right .ensures) in
+    sym (told ∙ simp (not-false (passed .before .fixed-right .result) (passed .if1 .left), not-true (c .before .check-right .result) (c .if2 .taken)))
 
 returns-3 : tie.Need-returns-3
-unfolding askFixed askCheck
 returns-3 c =
     let passed = c .before .before in
-    let taken = passed .before .before .block-at in
-    let b = passed .before .before .before .before .args .b in
-    let seven = told-yes (λ (s : List ℕ). fixedRight s b) _ _ _ (passed .before .fixed-right .ensures) (taken .ensures) (passed .if1 .left) in
-    simp (seven, told-yes checkRight _ _ _ (c .before .check-right .ensures) (taken .ensures) (c .if2 .left))
+    let taken = passed .before .before in
+    let told = block-number _ _ (taken .block-at .ensures) (passed .before .fixed-right .ensures) (c .before .check-right .ensures) in
+    sym (told ∙ simp (not-false (passed .before .fixed-right .result) (passed .if1 .left), not-false (c .before .check-right .result) (c .if2 .left)))
 
 pub ask-block-spec : {M : Type 1} → statement M
 ask-block-spec =

@@ -1,17 +1,14 @@
 -- `store_dumps::read_dump` meets its contract. The loop's invariant: the blocks passed answer 7 and 8 with yes. Each return rewrites with the tests that led there. Assumes nothing.
-use mathlib.Core.Path.{_≡_, _∙_, ap, sym}
-use mathlib.Core.List.{List}
+use mathlib.Core.Path.{_≡_, _∙_, sym}
 use Prim.Native.Nat.{ℕ, _≤_, _<_, _-_}
 use native.Mathlib.Omega.{arith}
 use borrow.Author.Count.{below-more}
 use borrow.Author.Needs.{needs}
-use borrow.Author.Tests.{le-leb, lt-leb, eq-eqb, ne-eqb}
-use Rattle.dump.specs.Dump.{softOf}
-use Rattle.questions.specs.Questions.{firstAbove}
+use borrow.Author.Tests.{eq-eqb, ne-eqb}
 use Rattle.questions.specs.Outcome.{number}
 use Rattle.questions.specs.declared.Outcome.the-variants.{Done}
 use Rattle.store_dumps.specs.Dumps.{askBlock}
-use Rattle.store_dumps.proofs.BlockFaults.{first-bad-block-is-named, values-are-asked-last}
+use Rattle.store_dumps.proofs.BlockFaults.{first-bad-block-is-named, value-refused, values-passed}
 use Rattle.questions.proofs.Filled.{refused, done}
 use Rattle.store_dumps.proofs.read_dump.Statement.{statement}
 use Rattle.store_dumps.proofs.read_dump.Tie as tie
@@ -73,11 +70,9 @@ returns-4 c =
     let at-loop = copied .before .before .before in
     let asked = at-loop .before in
     let start = asked .before .before .before .before in
-    let dump = start .args .dump .now in
-    let last = values-are-asked-last dump (start .args .out .now) (asked .before .if1 .left) (asked .if2 .left) (λ b h. at-loop .loop .inv .1 b (omega arith)) in
-    let found : told .first-above .result ≡ firstAbove (softOf dump) 7 = told .first-above .ensures ∙ ap (λ (s : List ℕ). firstAbove s 7) (copied .read .ensures) in
-    let bad : firstAbove (softOf dump) 7 < 1890 = rw found at (c .if4 .taken) in
-    refused (last ∙ simp (lt-leb _ _ bad, found))
+    refused
+    (value-refused (start .args .dump .now) (start .args .out .now) (asked .before .if1 .left) (asked .if2 .left) (λ b h. at-loop .loop .inv .1 b (omega arith)) (copied .read .ensures)
+    (told .first-above .ensures) (c .if4 .taken))
 
 read-requires-2 : tie.Need-read-requires-2 Inv-loop μ-loop
 read-requires-2 c κs = search needs
@@ -88,16 +83,14 @@ same-length c = search needs
 returns-5 : tie.Need-returns-5 Inv-loop μ-loop
 returns-5 c =
     let passed = c .before .before .before .before in
-    let told = passed .before in
-    let copied = told .before .before .before in
+    let copied = passed .before .before .before .before in
     let at-loop = copied .before .before .before in
     let asked = at-loop .before in
     let start = asked .before .before .before .before in
-    let dump = start .args .dump .now in
-    let last = values-are-asked-last dump (start .args .out .now) (asked .before .if1 .left) (asked .if2 .left) (λ b h. at-loop .loop .inv .1 b (omega arith)) in
-    let found : told .first-above .result ≡ firstAbove (softOf dump) 7 = told .first-above .ensures ∙ ap (λ (s : List ℕ). firstAbove s 7) (copied .read .ensures) in
-    let good : 1890 ≤ firstAbove (softOf dump) 7 = rw found at (passed .if4 .left) in
-    done (last ∙ simp (le-leb _ _ good)) (c .before .before .read2 .ensures)
+    done
+    (values-passed (start .args .dump .now) (start .args .out .now) (asked .before .if1 .left) (asked .if2 .left) (λ b h. at-loop .loop .inv .1 b (omega arith)) (copied .read .ensures)
+    (passed .before .first-above .ensures) (passed .if4 .left))
+    (c .before .before .read2 .ensures)
 
 pub read-dump-spec : {M : Type 1} → statement M
 read-dump-spec =
