@@ -4,6 +4,7 @@ ghost use mathlib.Core.Path.{_≡_};
 ghost use Prim.Native.Nat.{ℕ, _+_, _<_, _≤_};
 ghost use lib.ListN.{length, getD};
 ghost use lib.Seq.{paste};
+ghost use Rattle.reedsolomon.specs.Search.{WordOf};
 ghost use Rattle.concatenated.specs.Format.{shortPage, shortRoots};
 ghost use Rattle.concatenated.specs.Data.{dataSymbols, dataBytes};
 ghost use Rattle.concatenated.specs.Written.{rowsData};
@@ -28,7 +29,7 @@ pub fn symbols_of(data: &[u8], out: &mut [u8; 200])
 
 // The data of the symbols.
 pub fn bytes_of(symbols: &[u8; 200], out: &mut [u8])
-    requires { ⌜ (length (now symbols) ≡ 200) × (length (now out) ≡ 150) × ((k : ℕ) → getD (now symbols) k 0 < 64) ⌝ }
+    requires { ⌜ WordOf 64 200 (now symbols) × (length (now out) ≡ 150) ⌝ }
     ensures { λ r. ⌜ now (out .exit) ≡ dataBytes shortPage (now (symbols .entry)) ⌝ }
 {
     let mut g: usize = 0;

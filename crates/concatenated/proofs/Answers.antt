@@ -112,7 +112,7 @@ module _ (P : Format) (outer : RowDecoder) (encoded : RowEncoder) (Codeword : �
           let before-all : length ds ≡ P .columns = all ds (ks, m, to) in
           let long = columns-long k ds before-all in
           let code = laws .given k (symbols S k (map (read k) ds)) (marks (map (read k) ds)) r (omega arith) (long .0) (long .1) o .0 in
-          ap length (sym (going-inj (rowOff S k r ds) cs _ (at .0) _ (at .1) f .0)) ∙ row-off-length S k r ds (laws .long k r (omega arith) code ∙ sym before-all) ∙ before-all
+          ap length (sym (going-inj (rowOff S k r ds) cs _ (at .0) _ (at .1) f .0)) ∙ row-off-length S k r ds (laws .word k r (omega arith) code .0 ∙ sym before-all) ∙ before-all
 
       before : AllColumns k → (x : State) → run S outer read page k ≡ x → onward S outer read k x ≡ going cs (at .0) (at .1) → length cs ≡ P .columns
       before all (stopped l) to f = stopped-is-not-going l cs (at .0) (at .1) f
@@ -143,7 +143,7 @@ module _ (P : Format) (outer : RowDecoder) (encoded : RowEncoder) (Codeword : �
       let ms = marks rs in
       let c = l .symbols in
       let rule = laws .given i xs ms c h (long .0) (long .1) (of .row-given) in
-      let lc : length c ≡ P .columns = laws .long i c h (rule .0) in
+      let lc : length c ≡ P .columns = laws .word i c h (rule .0) .0 in
       record {
         comes-from = of;
         is-codeword = rule .0;

@@ -8,14 +8,23 @@ use native.Mathlib.Omega.{arith}
 use lib.Arith.{digits-lt, digits-div, mod-mul}
 use lib.ListN.{length, length-append, length-drop, take, drop, take-append-drop}
 use lib.Seq.{length-take-le, take-at, drop-at}
+use Rattle.reedsolomon.specs.Search.{WordOf}
 use Rattle.packing.specs.Packing.{joined, digit, symbolsOf, bytesOf}
 use Rattle.concatenated.specs.Lists.{All}
 use Rattle.concatenated.specs.Data.{digits, repacked}
-use Rattle.concatenated.proofs.Lists.{all-append, all-of-append}
+use Rattle.concatenated.proofs.Lists.{all-append, all-of-append, all-at}
 
 -- every entry is a digit of the base
 abbrev pub Below : ℕ → List ℕ → Type 0
 Below base = All (λ d. d < base)
+
+-- digits of the base are a word, and the other way
+pub below-is-word : (base : ℕ) (ds : List ℕ) → Below base ds → WordOf base (length ds) ds
+below-is-word base ds h = (refl, λ j l. all-at (λ d. d < base) ds j 0 h l)
+
+pub word-is-below : (base n : ℕ) (ds : List ℕ) → WordOf base n ds → Below base ds
+word-is-below base n [] h = tt
+word-is-below base n (d ∷ ds) h = (h .1 0 (omega (arith, h .0)), word-is-below base (length ds) ds (refl, λ j l. h .1 (suc j) (omega (arith, h .0, l))))
 
 -- what stands before the digits counts as their next digit
 pub joined-from : (base x : ℕ) (ds : List ℕ) → joined base x ds ≡ x * base ^ length ds + joined base 0 ds

@@ -10,6 +10,7 @@ use Rattle.poly.specs.Polynomial.{add}
 use Rattle.column.specs.Shape.{Shape, levels}
 use Rattle.column.specs.Level.{levelWord, highest, columnOf, reimaged}
 use Rattle.column.proofs.Levels.{reimage-of-sum}
+use Rattle.reedsolomon.specs.Search.{WordOf}
 use Rattle.concatenated.specs.Lists.{All, listed}
 use Rattle.concatenated.specs.Format.{Format, SoundFormat, symbolValues, dataLength, dataCount}
 use Rattle.concatenated.specs.Data.{dataSymbols}
@@ -17,7 +18,7 @@ use Rattle.concatenated.specs.Outer.{RowDecoder, RowEncoder, OuterLaws}
 use Rattle.concatenated.specs.Written.{rowData, writtenRow, writtenRows, columnSymbols, columnsOf, rowAt, writtenSum, columnInBytes, pageInBytes, bytesOfRows}
 use Rattle.concatenated.proofs.Lists.{listed-length, listed-at, all-listed, map-listed, listed-same, all-append}
 use Rattle.concatenated.proofs.Digits.{Below, digits-length}
-use Rattle.concatenated.proofs.RowData.{row-data-length, row-data-in-range, data-symbols-fill-the-rows, data-symbols-in-range, bytes-of-rows-with-data}
+use Rattle.concatenated.proofs.RowData.{row-data-is-a-word, data-symbols-fill-the-rows, data-symbols-in-range, bytes-of-rows-with-data}
 
 -- ---- rows and columns of a list of rows
 
@@ -76,11 +77,8 @@ module _ (P : Format) (ok : SoundFormat P) (outer : RowDecoder) (encoded : RowEn
   abbrev pub ws : List (List ℕ)
   ws = columnsOf (P .columns) rs
 
-  row-data-long : (i : ℕ) → i < levels S → length (rowData P (dataSymbols P bytes) i) ≡ dataCount P i
-  row-data-long = row-data-length P (dataSymbols P bytes) (data-symbols-fill-the-rows P ok bytes)
-
-  row-data-small : (i : ℕ) → i < levels S → (j : ℕ) → j < dataCount P i → getD (rowData P (dataSymbols P bytes) i) j 0 < symbolValues P
-  row-data-small = row-data-in-range P (dataSymbols P bytes) (data-symbols-fill-the-rows P ok bytes) (symbolValues P) (data-symbols-in-range P ok bytes)
+  pub written-data-is-a-word : (i : ℕ) → i < levels S → WordOf (symbolValues P) (dataCount P i) (rowData P (dataSymbols P bytes) i)
+  written-data-is-a-word = row-data-is-a-word P (dataSymbols P bytes) (data-symbols-fill-the-rows P ok bytes) (symbolValues P) (data-symbols-in-range P ok bytes)
 
   pub row-listed : (i : ℕ) → i < levels S → getD rs i [] ≡ writtenRow P encoded bytes i
   unfolding writtenRows
@@ -88,10 +86,10 @@ module _ (P : Format) (ok : SoundFormat P) (outer : RowDecoder) (encoded : RowEn
 
   pub written-row-is-a-codeword : (i : ℕ) → i < levels S → Codeword i (writtenRow P encoded bytes i)
   unfolding writtenRow
-  written-row-is-a-codeword i h = laws .encodes i (rowData P (dataSymbols P bytes) i) h (row-data-long i h) (row-data-small i h)
+  written-row-is-a-codeword i h = laws .encodes i (rowData P (dataSymbols P bytes) i) h (written-data-is-a-word i h)
 
-  pub written-row-length : (i : ℕ) → i < levels S → length (writtenRow P encoded bytes i) ≡ P .columns
-  written-row-length i h = laws .long i (writtenRow P encoded bytes i) h (written-row-is-a-codeword i h)
+  pub written-row-is-a-word : (i : ℕ) → i < levels S → WordOf (symbolValues P) (P .columns) (writtenRow P encoded bytes i)
+  written-row-is-a-word i h = laws .word i (writtenRow P encoded bytes i) h (written-row-is-a-codeword i h)
 
   -- 01: "The first 33, 51, 57, 59 columns hold data"
   pub written-row-has-its-data-in-front : (i : ℕ) → i < levels S → take (dataCount P i) (writtenRow P encoded bytes i) ≡ rowData P (dataSymbols P bytes) i
@@ -99,11 +97,11 @@ module _ (P : Format) (ok : SoundFormat P) (outer : RowDecoder) (encoded : RowEn
   written-row-has-its-data-in-front i h =
       let d : List ℕ = rowData P (dataSymbols P bytes) i in
       let c : List ℕ = encoded i d in
-      let long : length (take (dataCount P i) c) ≡ dataCount P i = length-take-le (dataCount P i) c (omega (arith, laws .long i c h (laws .encodes i d h (row-data-long i h) (row-data-small i h)))) in
-      ext-getD 0 (take (dataCount P i) c) d (long ∙ sym (row-data-long i h))
+      let long : length (take (dataCount P i) c) ≡ dataCount P i = length-take-le (dataCount P i) c (omega (arith, laws .word i c h (laws .encodes i d h (written-data-is-a-word i h)) .0)) in
+      ext-getD 0 (take (dataCount P i) c) d (long ∙ sym (written-data-is-a-word i h .0))
       (λ j l.
       let k : j < dataCount P i = subst (λ (t : ℕ). j < t) long l in
-      getD-take (dataCount P i) c j 0 k ∙ laws .in-front i d h (row-data-long i h) (row-data-small i h) j k)
+      getD-take (dataCount P i) c j 0 k ∙ laws .in-front i d h (written-data-is-a-word i h) j k)
 
   -- so the written rows hold the data
   pub written-rows-hold-the-data : length bytes ≡ dataLength P → Below 256 bytes → bytesOfRows P rs ≡ bytes
@@ -112,7 +110,7 @@ module _ (P : Format) (ok : SoundFormat P) (outer : RowDecoder) (encoded : RowEn
 
   pub row-of-written-columns : (i : ℕ) → i < levels S → rowAt i ws ≡ writtenRow P encoded bytes i
   row-of-written-columns i h =
-      row-of-columns (P .columns) rs i (ap length (row-listed i h) ∙ written-row-length i h) ∙ row-listed i h
+      row-of-columns (P .columns) rs i (ap length (row-listed i h) ∙ written-row-is-a-word i h .0) ∙ row-listed i h
 
   pub rows-of-written-columns : listed (λ i. rowAt i ws) (levels S) ≡ rs
   unfolding writtenRows
@@ -125,7 +123,7 @@ module _ (P : Format) (ok : SoundFormat P) (outer : RowDecoder) (encoded : RowEn
 
   pub written-symbols-in-range : (j : ℕ) → j < P .columns → (i : ℕ) → i < levels S → getD (columnSymbols rs j) i 0 < symbolValues P
   written-symbols-in-range j l i h =
-      subst⁻¹ (λ (t : ℕ). t < symbolValues P) (written-symbol i j h) (laws .in-range i (writtenRow P encoded bytes i) h (written-row-is-a-codeword i h) j l)
+      subst⁻¹ (λ (t : ℕ). t < symbolValues P) (written-symbol i j h) (written-row-is-a-word i h .1 j l)
 
   highest-same : (s t : ℕ → ℕ) → ((i : ℕ) → i < levels S → s i ≡ t i) → (k : ℕ) → k ≤ levels S → highest S s k ≡ highest S t k
   unfolding highest

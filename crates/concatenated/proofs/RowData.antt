@@ -8,11 +8,12 @@ use lib.Pow.{pow-pos}
 use lib.ListN.{length, length-drop, getD, take, drop, take-append-drop}
 use lib.Seq.{length-take-le, take-all, take-add}
 use Rattle.column.specs.Shape.{levels}
+use Rattle.reedsolomon.specs.Search.{WordOf}
 use Rattle.concatenated.specs.Format.{Format, SoundFormat, symbolValues, dataLength, dataCount, dataBefore}
 use Rattle.concatenated.specs.Data.{dataSymbols, dataBytes}
 use Rattle.concatenated.specs.Written.{rowData, rowsData, bytesOfRows}
-use Rattle.concatenated.proofs.Lists.{all-of-append, all-at}
-use Rattle.concatenated.proofs.Digits.{Below, packing-comes-back, repacked-length, repacked-below}
+use Rattle.concatenated.proofs.Lists.{all-of-append}
+use Rattle.concatenated.proofs.Digits.{Below, below-is-word, packing-comes-back, repacked-length, repacked-below}
 
 module _ (P : Format) where
   data-before-grows : (i k : ℕ) → dataBefore P i ≤ dataBefore P (k + i)
@@ -28,18 +29,18 @@ module _ (P : Format) where
       subst (λ (t : ℕ). dataBefore P (suc i) ≤ dataBefore P t) e (data-before-grows (suc i) (n - suc i))
 
   module _ (xs : List ℕ) (all : length xs ≡ dataBefore P (levels (P .shape))) where
-    pub row-data-length : (i : ℕ) → i < levels (P .shape) → length (rowData P xs i) ≡ dataCount P i
+    row-data-length : (i : ℕ) → i < levels (P .shape) → length (rowData P xs i) ≡ dataCount P i
     unfolding rowData
     row-data-length i h =
         length-take-le (dataCount P i) (drop (dataBefore P i) xs) (omega (arith, length-drop (dataBefore P i) xs, row-data-within i (levels (P .shape)) h))
 
-    pub row-data-in-range : (q : ℕ) → Below q xs → (i : ℕ) → i < levels (P .shape) → (j : ℕ) → j < dataCount P i → getD (rowData P xs i) j 0 < q
+    pub row-data-is-a-word : (q : ℕ) → Below q xs → (i : ℕ) → i < levels (P .shape) → WordOf q (dataCount P i) (rowData P xs i)
     unfolding rowData
-    row-data-in-range q h i hi j hj =
+    row-data-is-a-word q h i hi =
         let later : List ℕ = drop (dataBefore P i) xs in
         let below-later = all-of-append (λ x. x < q) (take (dataBefore P i) xs) later (subst⁻¹ (Below q) (take-append-drop (dataBefore P i) xs) h) .1 in
         let below-row = all-of-append (λ x. x < q) (take (dataCount P i) later) (drop (dataCount P i) later) (subst⁻¹ (Below q) (take-append-drop (dataCount P i) later) below-later) .0 in
-        all-at (λ x. x < q) (take (dataCount P i) later) j 0 below-row (subst⁻¹ (λ (t : ℕ). j < t) (row-data-length i hi) hj)
+        subst (λ (n : ℕ). WordOf q n (take (dataCount P i) later)) (row-data-length i hi) (below-is-word q (take (dataCount P i) later) below-row)
 
     -- rows with these data in front have all data
     module _ (rs : List (List ℕ)) (fronts : (i : ℕ) → i < levels (P .shape) → take (dataCount P i) (getD rs i []) ≡ rowData P xs i) where

@@ -3,6 +3,7 @@ use mathlib.Core.List.{List, []}
 use mathlib.Core.Path.{_≡_}
 use Prim.Native.Nat.{ℕ, _<_}
 use lib.ListN.{length, getD}
+use Rattle.reedsolomon.specs.Search.{WordOf}
 use Rattle.concatenated.specs.Lists.{All}
 use Rattle.concatenated.specs.SoftPage.{Soft}
 
@@ -14,8 +15,7 @@ pub record SoftColumns (work : List (List ℕ)) : Type 0 where
 -- four rows, each of 63 symbols
 pub record Rows (rows : List (List ℕ)) : Type 0 where
   pub four : length rows ≡ 4
-  pub long : (i : ℕ) → i < 4 → length (getD rows i []) ≡ 63
-  pub small : (i j : ℕ) → getD (getD rows i []) j 0 < 64
+  pub words : (i : ℕ) → i < 4 → WordOf 64 63 (getD rows i [])
 
 -- four sets, each with a flag for each of 63 columns
 abbrev pub FourSets : List (List ℕ) → Type 0

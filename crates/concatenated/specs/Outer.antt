@@ -7,7 +7,7 @@ use native.Mathlib.Decide.{ℕ-discrete}
 use lib.ListN.{length, getD}
 use Rattle.column.specs.Shape.{levels}
 use Rattle.reedsolomon.specs.Words.{InReach}
-use Rattle.reedsolomon.specs.Search.{OuterAnswer, Found}
+use Rattle.reedsolomon.specs.Search.{WordOf, OuterAnswer, Found}
 use Rattle.reedsolomon.specs.Row.{symbol}
 use Rattle.concatenated.specs.Format.{Format, symbolValues, dataCount}
 
@@ -26,15 +26,12 @@ isIn set j = getD set j false
 -- The laws, where `Codeword i` are the words of row i. 01: "At most one such word exists", so that decoding gives a word exactly if it is a codeword in reach.
 pub record OuterLaws (P : Format) (outer : RowDecoder) (encoded : RowEncoder) (Codeword : ℕ → List ℕ → Type 0) : Type 0 where
   -- a codeword has a symbol for each column
-  pub long : (i : ℕ) (c : List ℕ) → i < levels (P .shape) → Codeword i c → length c ≡ P .columns
-  pub in-range : (i : ℕ) (c : List ℕ) → i < levels (P .shape) → Codeword i c → (j : ℕ) → j < P .columns → getD c j 0 < symbolValues P
+  pub word : (i : ℕ) (c : List ℕ) → i < levels (P .shape) → Codeword i c → WordOf (symbolValues P) (P .columns) c
   -- decoding
   pub gives : (i : ℕ) (w : List ℕ) (marks : List Bool) (c : List ℕ) → i < levels (P .shape) → length w ≡ P .columns → length marks ≡ P .columns
       → Codeword i c → InReach ℕ-discrete (isIn marks) (P .columns) (P .roots i) (symbol w) (symbol c) → outer i w marks ≡ Found c
   pub given : (i : ℕ) (w : List ℕ) (marks : List Bool) (c : List ℕ) → i < levels (P .shape) → length w ≡ P .columns → length marks ≡ P .columns
       → outer i w marks ≡ Found c → Codeword i c × InReach ℕ-discrete (isIn marks) (P .columns) (P .roots i) (symbol w) (symbol c)
   -- encoding: the codeword with the data in front
-  pub encodes : (i : ℕ) (d : List ℕ) → i < levels (P .shape) → length d ≡ dataCount P i → ((j : ℕ) → j < dataCount P i → getD d j 0 < symbolValues P)
-      → Codeword i (encoded i d)
-  pub in-front : (i : ℕ) (d : List ℕ) → i < levels (P .shape) → length d ≡ dataCount P i → ((j : ℕ) → j < dataCount P i → getD d j 0 < symbolValues P)
-      → (j : ℕ) → j < dataCount P i → getD (encoded i d) j 0 ≡ getD d j 0
+  pub encodes : (i : ℕ) (d : List ℕ) → i < levels (P .shape) → WordOf (symbolValues P) (dataCount P i) d → Codeword i (encoded i d)
+  pub in-front : (i : ℕ) (d : List ℕ) → i < levels (P .shape) → WordOf (symbolValues P) (dataCount P i) d → (j : ℕ) → j < dataCount P i → getD (encoded i d) j 0 ≡ getD d j 0

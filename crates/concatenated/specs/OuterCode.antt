@@ -1,8 +1,7 @@
 -- The outer code of the short page, as a page asks for it. Assumes nothing.
 use mathlib.Core.List.{List, map}
-use mathlib.Core.Path.{_≡_}
-use Prim.Native.Nat.{ℕ, _<_}
-use lib.ListN.{length, getD}
+use Prim.Native.Nat.{ℕ}
+use Rattle.reedsolomon.specs.Search.{WordOf}
 use Rattle.reedsolomon.specs.Row.{IsCodeword, outerAnswer, encodedRow}
 use Rattle.concatenated.specs.Format.{shortRoots}
 use Rattle.concatenated.specs.Outer.{RowDecoder, RowEncoder}
@@ -15,12 +14,7 @@ shortOuter i xs ms = outerAnswer 6 67 63 (shortRoots i) xs (map flag ms)
 unfoldable pub shortEncoder : RowEncoder
 shortEncoder i d = encodedRow 6 67 63 (shortRoots i) d
 
--- 63 symbols
-pub record RowWord (c : List ℕ) : Type 0 where
-  pub long : length c ≡ 63
-  pub small : (j : ℕ) → getD c j 0 < 64
-
 -- the words of row i
 pub record ShortCodeword (i : ℕ) (c : List ℕ) : Type 0 where
-  pub word : RowWord c
+  pub word : WordOf 64 63 c
   pub code : IsCodeword 6 67 63 (shortRoots i) c

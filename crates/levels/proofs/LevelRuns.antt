@@ -7,16 +7,14 @@ use Prim.Native.Nat.{ℕ, zero, suc, _+_, _-_, _*_, _≤_, _<_}
 use native.Mathlib.Nat.{eq-or-lt-of-le, lt-irrefl, not-suc-le-zero}
 use native.Mathlib.Numerals.{add-one}
 use native.Mathlib.Omega.{arith}
-use lib.Dec.{lit<}
-use lib.ListN.{length, length-set, length-map, getD, take, set, List·getD-eq-default}
+use lib.ListN.{length, length-set, length-map, getD, take, set}
 use lib.Seq.{take-suc-set, take-all, getD-set-same, getD-set-other}
-use Rattle.poly.proofs.Sum.{lt-or-le}
 use Rattle.column.specs.Shape.{short}
-use Rattle.reedsolomon.specs.Search.{OuterAnswer, Found, NoneInReach}
+use Rattle.reedsolomon.specs.Search.{WordOf, OuterAnswer, Found, NoneInReach}
 use Rattle.concatenated.specs.Decode.{Reader, symbol, symbols, mark, marks, changed, decodedRow, Level, level, State, going, stopped, settle, onward, run, outcome, decoded, rows}
 use Rattle.concatenated.specs.Flags.{flag}
-use Rattle.concatenated.specs.Arrays.{SoftColumns, Rows}
-use Rattle.concatenated.specs.OuterCode.{shortOuter, RowWord}
+use Rattle.concatenated.specs.Arrays.{SoftColumns}
+use Rattle.concatenated.specs.OuterCode.{shortOuter}
 use Rattle.levels.specs.Levels.{Ended, LevelDone, changedFlags, erasedFlags, Ends, ColumnsDone}
 use Rattle.levels.specs.declared.LevelOut.{LevelOut}
 use Rattle.levels.specs.declared.ColumnsOutcome.the-variants.{Answered, Refused}
@@ -45,7 +43,7 @@ pub record Decoding (read : Reader) (page work held changes erased : List (List 
   pub rows-so : take i held ≡ map (λ l. l .symbols) levels
   pub changes-so : take i changes ≡ changedFlags levels
   pub erased-so : take i erased ≡ erasedFlags levels
-  pub words : (k : ℕ) → k < i → RowWord (getD held k [])
+  pub words : (k : ℕ) → k < i → WordOf 64 63 (getD held k [])
   pub changes-wide : (k : ℕ) → k < i → length (getD changes k []) ≡ 63
   pub erased-wide : (k : ℕ) → k < i → length (getD erased k []) ≡ 63
   pub few : sum ≤ 126000 * i
@@ -76,7 +74,7 @@ module _ (read : Reader) (page work held changes erased : List (List ℕ)) (sum 
   unfolding run onward
   onwards o e = ap (onward short shortOuter read i) (f .so-far) ∙ ap (settle short shortOuter i work (map (read i) work) (f .levels) sum) e
 
-  word : (r : List ℕ) → decodedRow short shortOuter i (map (read i) work) ≡ Found r → RowWord r
+  word : (r : List ℕ) → decodedRow short shortOuter i (map (read i) work) ≡ Found r → WordOf 64 63 r
   word r e = row-is-a-word i h (map (read i) work) (length-map work (read i) ∙ f .soft .many) r e
 
   wide : (r : List ℕ) → length r ≡ 63 → length (map flag (changed (symbols short i (map (read i) work)) (marks (map (read i) work)) r)) ≡ 63
@@ -109,8 +107,8 @@ module _ (read : Reader) (page work held changes erased : List (List ℕ)) (sum 
             rows-so = held-more (λ x. x .symbols) held (f .levels) i (out .row) l (omega (arith, f .long-held)) (f .rows-so) (d .1);
             changes-so = held-more (λ x. map flag (x .changed)) changes (f .levels) i (out .changed) l (omega (arith, f .long-changes)) (f .changes-so) (d .2);
             erased-so = held-more (λ x. map flag (x .erased)) erased (f .levels) i (out .erased) l (omega (arith, f .long-erased)) (f .erased-so) (d .3);
-            words = each-more RowWord held i (out .row) (omega (arith, f .long-held)) (f .words) (subst⁻¹ RowWord (d .1) (word r e));
-            changes-wide = each-more (λ s. length s ≡ 63) changes i (out .changed) (omega (arith, f .long-changes)) (f .changes-wide) (ap length (d .2) ∙ wide r (word r e .long));
+            words = each-more (WordOf 64 63) held i (out .row) (omega (arith, f .long-held)) (f .words) (subst⁻¹ (WordOf 64 63) (d .1) (word r e));
+            changes-wide = each-more (λ s. length s ≡ 63) changes i (out .changed) (omega (arith, f .long-changes)) (f .changes-wide) (ap length (d .2) ∙ wide r (word r e .0));
             erased-wide = each-more (λ s. length s ≡ 63) erased i (out .erased) (omega (arith, f .long-erased)) (f .erased-wide) (ap length (d .3) ∙ length-map (marks (map (read i) work)) flag ∙ length-map (map (read i) work) mark ∙ length-map work (read i) ∙ f .soft .many);
             few = omega (arith, f .few, few);
           }
@@ -130,15 +128,6 @@ module _ (read : Reader) (page work held changes erased : List (List ℕ)) (sum 
       let e : run short shortOuter read page 4 ≡ stopped i = sym (ap (run short shortOuter read page) k) ∙ stays read page (suc i) i (stop z) (3 - i) in
       subst⁻¹ (λ (x : State). Ends (outcome x) (Refused i) held′ changes′ erased′) e refl
 
--- four words of symbols are rows
-pub held-rows : (held : List (List ℕ)) → length held ≡ 4 → ((k : ℕ) → k < 4 → RowWord (getD held k [])) → Rows held
-held-rows held e words =
-    record {
-      four = e;
-      long = λ i h. words i h .long;
-      small = λ i j. ⊎-elim (λ h. words i h .small j) (λ h. subst⁻¹ (λ (t : List ℕ). getD t j 0 < 64) (List·getD-eq-default held [] {n = i} (omega (arith, e, h))) (lit< tt)) (lt-or-le i 4);
-    }
-
 pub decoding-answered : (read : Reader) (page work held changes erased : List (List ℕ)) (sum i : ℕ) → Decoding read page work held changes erased sum i → 4 ≤ i
     → ColumnsDone read page (Answered sum) held changes erased
 unfolding ColumnsDone decoded outcome rows
@@ -149,7 +138,7 @@ decoding-answered read page work held changes erased sum i f h =
       sym (take-all i held (omega (arith, f .long-held))) ∙ f .rows-so,
       sym (take-all i changes (omega (arith, f .long-changes))) ∙ f .changes-so,
       sym (take-all i erased (omega (arith, f .long-erased))) ∙ f .erased-so,
-      held-rows held (f .long-held) (λ k l. f .words k (omega (arith, four, l))),
+      record { four = f .long-held; words = λ k l. f .words k (omega (arith, four, l)) },
       (f .long-changes, λ k l. f .changes-wide k (omega (arith, four, l))),
       (f .long-erased, λ k l. f .erased-wide k (omega (arith, four, l))),
     )

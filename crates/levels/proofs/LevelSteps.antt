@@ -1,19 +1,15 @@
 -- One level put together: what is read, the row, the changed columns, the words taken off. Assumes nothing.
 use mathlib.Core.Bool.{Bool, true, false, true≢false}
 use mathlib.Core.List.{List, map}
-use mathlib.Core.Logic.{⊎-elim}
 use mathlib.Core.Path.{_≡_, refl, sym, ap, ap₂, _∙_, subst⁻¹}
 use Prim.Native.Nat.{ℕ, _<_}
-use lib.Dec.{lit<}
-use lib.ListN.{length, length-map, getD, List·getD-eq-default}
-use Rattle.poly.proofs.Sum.{lt-or-le}
+use lib.ListN.{length, length-map}
 use Rattle.column.specs.Shape.{short}
 use Rattle.trellis.specs.Values.{values}
 use Rattle.trellis.specs.Demand.{Search as Kind}
 use Rattle.trellis.proofs.Short.{searchable}
-use Rattle.reedsolomon.specs.Search.{OuterAnswer, Found, NoneInReach}
-use Rattle.reedsolomon.specs.Row.{outerAnswer, wordOf, isFound, RowDecoded}
-use Rattle.concatenated.specs.Lists.{All}
+use Rattle.reedsolomon.specs.Search.{WordOf, OuterAnswer, Found, NoneInReach}
+use Rattle.reedsolomon.specs.Row.{Symbols, outerAnswer, wordOf, isFound, RowDecoded}
 use Rattle.concatenated.specs.Format.{shortRoots}
 use Rattle.concatenated.specs.SoftPage.{Soft}
 use Rattle.concatenated.specs.Decode.{Reading, symbol, symbols, mark, marks, changed, rowOff, decodedRow}
@@ -21,10 +17,11 @@ use Rattle.concatenated.specs.Readers.{shortReader}
 use Rattle.concatenated.specs.Flags.{flag, isOne}
 use Rattle.concatenated.specs.Arrays.{SoftColumns}
 use Rattle.readings.specs.Steps.{RowRead}
-use Rattle.concatenated.specs.OuterCode.{shortOuter, RowWord}
+use Rattle.concatenated.specs.OuterCode.{shortOuter}
 use Rattle.levels.specs.Levels.{Ended}
 use Rattle.levels.specs.declared.LevelOut.{LevelOut}
-use Rattle.concatenated.proofs.Lists.{all-at}
+use Rattle.reedsolomon.proofs.Answers.{word-is-of-symbols}
+use Rattle.concatenated.proofs.Digits.{below-is-word}
 use Rattle.concatenated.proofs.Columns.{row-off-length, row-off-all}
 use Rattle.concatenated.proofs.TakingOff.{off-length, column-stays-soft}
 use Rattle.concatenated.proofs.Searches.{symbols-in-range}
@@ -37,18 +34,14 @@ read-long i rs xs ms n read e = (
   ap length (read .marks-are) ∙ length-map (marks rs) flag ∙ length-map rs mark ∙ e,
 )
 
--- symbols, and 0 behind them
-pub all-small : (xs : List ℕ) → All (λ x. x < 64) xs → (j : ℕ) → getD xs j 0 < 64
-all-small xs h j =
-    ⊎-elim (λ l. all-at (λ x. x < 64) xs j 0 h l) (λ l. subst⁻¹ (λ (x : ℕ). x < 64) (List·getD-eq-default xs 0 {n = j} l) (lit< tt)) (lt-or-le j (length xs))
-
 -- they are symbols
-pub read-small : (kind : Kind) (limit i : ℕ) → i < 4 → (work : List (List ℕ)) (xs ms : List ℕ) (n : ℕ) → RowRead i (map (shortReader kind limit i) work) xs ms n → (j : ℕ) → getD xs j 0 < 64
-read-small kind limit i h work xs ms n read =
-    subst⁻¹ (λ (t : List ℕ). (j : ℕ) → getD t j 0 < 64) (read .symbols-are) (all-small (symbols short i (map (shortReader kind limit i) work)) (symbols-in-range short i (searchable i h) (λ k. values) limit kind work))
+pub read-symbols : (kind : Kind) (limit i : ℕ) → i < 4 → (work : List (List ℕ)) (xs ms : List ℕ) (n : ℕ) → RowRead i (map (shortReader kind limit i) work) xs ms n → Symbols 6 xs
+read-symbols kind limit i h work xs ms n read =
+    let ys = symbols short i (map (shortReader kind limit i) work) in
+    subst⁻¹ (Symbols 6) (read .symbols-are) (word-is-of-symbols 6 (length ys) ys (below-is-word 64 ys (symbols-in-range short i (searchable i h) (λ k. values) limit kind work)))
 
 -- the row of a level is a word of 63 symbols
-pub row-is-a-word : (i : ℕ) → i < 4 → (rs : List Reading) → length rs ≡ 63 → (r : List ℕ) → decodedRow short shortOuter i rs ≡ Found r → RowWord r
+pub row-is-a-word : (i : ℕ) → i < 4 → (rs : List Reading) → length rs ≡ 63 → (r : List ℕ) → decodedRow short shortOuter i rs ≡ Found r → WordOf 64 63 r
 unfolding decodedRow
 row-is-a-word i h rs long r e =
     outer-laws .given i (symbols short i rs) (marks rs) r h (length-map rs (symbol short i) ∙ long) (length-map rs mark ∙ long) e .0 .word
@@ -87,7 +80,7 @@ module _ (i : ℕ) (h : i < 4) (rs : List Reading) (long : length rs ≡ 63) (xs
       go (Found c) f w = ap Found (sym w)
       go NoneInReach f w = absurd (true≢false f)
 
-  pub settled-row-is-a-word : settled ≡ true → RowWord new
+  pub settled-row-is-a-word : settled ≡ true → WordOf 64 63 new
   settled-row-is-a-word e = row-is-a-word i h rs long new (is-row e)
 
   -- a level with no row, and one with a row

@@ -1,13 +1,14 @@
 -- A page's outcome from what its levels left. Assumes nothing.
 use mathlib.Core.Bool.{Bool}
 use mathlib.Core.List.{List, [], _∷_, map}
-use mathlib.Core.Path.{_≡_, refl, sym, ap, ap₂, _∙_, subst⁻¹}
+use mathlib.Core.Path.{_≡_, refl, sym, ap, ap₂, _∙_, subst, subst⁻¹}
 use Prim.Native.Nat.{ℕ, zero, suc, _+_, _≤_, _<_}
 use native.Mathlib.Omega.{arith}
 use lib.ListN.{length, length-append, getD, take, drop, take-append-drop}
 use lib.Seq.{length-take-le}
 use Rattle.column.specs.Shape.{short}
-use Rattle.concatenated.specs.Lists.{All, total}
+use Rattle.reedsolomon.specs.Search.{WordOf}
+use Rattle.concatenated.specs.Lists.{total}
 use Rattle.concatenated.specs.Format.{shortPage, dataBefore, dataCount}
 use Rattle.concatenated.specs.SoftPage.{Soft, softColumns}
 use Rattle.concatenated.specs.Data.{dataBytes}
@@ -22,10 +23,10 @@ use Rattle.levels.specs.declared.ColumnsOutcome.{ColumnsOutcome}
 use Rattle.levels.specs.declared.ColumnsOutcome.the-variants.{Answered, Refused}
 use Rattle.page.specs.declared.PageOutcome.{PageOutcome}
 use Rattle.concatenated.proofs.Lists.{all-append, all-of-append}
+use Rattle.concatenated.proofs.Digits.{Below, below-is-word, word-is-below}
 use Rattle.concatenated.proofs.SoftPages.{as-many-columns, columns-are-soft}
 use Rattle.concatenated.proofs.Short.{short-page-numbers}
 use Rattle.concatenated.proofs.OuterJoint.{flags-back}
-use Rattle.levels.proofs.LevelSteps.{all-small}
 
 -- the columns of a soft page, as the code asks for them
 pub soft-columns : (soft : List ℕ) (columns : List (List ℕ)) → length soft ≡ 1890 → Soft soft → columns ≡ softColumns shortPage soft → SoftColumns columns
@@ -82,26 +83,21 @@ unfolding rowsData dataBefore
 rows-data-long held good zero h = refl
 rows-data-long held good (suc n) h =
     length-append (rowsData shortPage held n) (take (dataCount shortPage n) (getD held n []))
-    ∙ ap₂ _+_ (rows-data-long held good n (omega arith)) (length-take-le (dataCount shortPage n) (getD held n []) (omega (arith, good .long n (omega arith))))
+    ∙ ap₂ _+_ (rows-data-long held good n (omega arith)) (length-take-le (dataCount shortPage n) (getD held n []) (omega (arith, good .words n (omega arith) .0)))
 
-pub rows-data-is-200 : (held : List (List ℕ)) (symbols : List ℕ) → Rows held → symbols ≡ rowsData shortPage held 4 → length symbols ≡ 200
-rows-data-is-200 held symbols good e = ap length e ∙ rows-data-long held good 4 (omega arith) ∙ short-page-numbers .5
-
-all-by-index : (xs : List ℕ) → ((j : ℕ) → getD xs j 0 < 64) → All (λ x. x < 64) xs
-all-by-index [] h = tt
-all-by-index (x ∷ xs) h = (h 0, all-by-index xs (λ j. h (suc j)))
-
-rows-data-below : (held : List (List ℕ)) → Rows held → (n : ℕ) → All (λ x. x < 64) (rowsData shortPage held n)
+rows-data-below : (held : List (List ℕ)) → Rows held → (n : ℕ) → n ≤ 4 → Below 64 (rowsData shortPage held n)
 unfolding rowsData
-rows-data-below held good zero = tt
-rows-data-below held good (suc n) =
-    let whole : All (λ x. x < 64) (getD held n []) = all-by-index (getD held n []) (good .small n) in
-    all-append (λ x. x < 64) (rowsData shortPage held n) (take (dataCount shortPage n) (getD held n [])) (rows-data-below held good n)
-    (all-of-append (λ x. x < 64) (take (dataCount shortPage n) (getD held n [])) (drop (dataCount shortPage n) (getD held n []))
-    (subst⁻¹ (All (λ x. x < 64)) (take-append-drop (dataCount shortPage n) (getD held n [])) whole) .0)
+rows-data-below held good zero h = tt
+rows-data-below held good (suc n) h =
+    let row = getD held n [] in
+    let count = dataCount shortPage n in
+    all-append (λ x. x < 64) (rowsData shortPage held n) (take count row) (rows-data-below held good n (omega arith))
+    (all-of-append (λ x. x < 64) (take count row) (drop count row) (subst⁻¹ (Below 64) (take-append-drop count row) (word-is-below 64 63 row (good .words n (omega arith)))) .0)
 
-pub rows-data-small : (held : List (List ℕ)) (symbols : List ℕ) → Rows held → symbols ≡ rowsData shortPage held 4 → (j : ℕ) → getD symbols j 0 < 64
-rows-data-small held symbols good e = subst⁻¹ (λ (x : List ℕ). (j : ℕ) → getD x j 0 < 64) e (all-small (rowsData shortPage held 4) (rows-data-below held good 4))
+pub rows-data-is-a-word : (held : List (List ℕ)) (symbols : List ℕ) → Rows held → symbols ≡ rowsData shortPage held 4 → WordOf 64 200 symbols
+rows-data-is-a-word held symbols good e =
+    subst⁻¹ (WordOf 64 200) e
+    (subst (λ (n : ℕ). WordOf 64 n (rowsData shortPage held 4)) (rows-data-long held good 4 (omega arith) ∙ short-page-numbers .5) (below-is-word 64 (rowsData shortPage held 4) (rows-data-below held good 4 (omega arith))))
 
 -- the outcome and the data of an answer
 module _ (d : PageAnswer) (n : ℕ) (held changes erased : List (List ℕ)) (a : AnsweredBy d n held changes erased) where

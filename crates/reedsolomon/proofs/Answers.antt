@@ -1,13 +1,16 @@
 -- The answer of outer decoding is the codeword in reach, and the encoded row is the codeword with the data in front: for every field of 2 ^ m elements. Assumes nothing.
-use mathlib.Core.Path.{_≡_, refl, sym, ap, _∙_, subst}
+use mathlib.Core.Path.{_≡_, refl, sym, ap, _∙_, subst, subst⁻¹}
 use mathlib.Core.Bool.{false}
-use mathlib.Core.Logic.{_↔_}
+use mathlib.Core.Logic.{_↔_, ⊎-elim}
 use mathlib.Core.List.{List}
 use Prim.Native.Nat.{ℕ, zero, suc, _+_, _-_, _^_, _≤_, _<_}
 use native.Mathlib.Decide.{ℕ-discrete}
 use native.Mathlib.Omega.{arith}
+use lib.Pow.{pow-pos}
+use lib.ListN.{List·getD-eq-default}
 use lib.Seq.{ext-getD}
 use Rattle.poly.specs.Polynomial.{add}
+use Rattle.poly.proofs.Sum.{lt-or-le}
 use Rattle.field.specs.Element.{mul, inverse, α, Primitive}
 use Rattle.field.specs.Element
 use Rattle.field.specs.Laws.{Field}
@@ -15,9 +18,9 @@ use Rattle.field.proofs.Ring
 use Rattle.field.proofs.Powers.{is-field, power-order}
 use Rattle.reedsolomon.specs.Sums.{power}
 use Rattle.reedsolomon.specs.Words.{OrderAtLeast, Codeword, InReach}
-use Rattle.reedsolomon.specs.Search.{words, Found, NoneInReach}
-use Rattle.reedsolomon.specs.Row.{symbol, marked, IsCodeword, outerAnswer, HasInFront, wordOf, encodedRow}
-use Rattle.reedsolomon.proofs.Finding.{WordOf, words-have-all, words-are-words, first-has-it, none-has-it, only-one-is-found, nothing-is-found, first-of-equivalent}
+use Rattle.reedsolomon.specs.Search.{WordOf, words, Found, NoneInReach}
+use Rattle.reedsolomon.specs.Row.{symbol, Symbols, marked, IsCodeword, outerAnswer, HasInFront, wordOf, encodedRow}
+use Rattle.reedsolomon.proofs.Finding.{words-have-all, words-are-words, first-has-it, none-has-it, only-one-is-found, nothing-is-found, first-of-equivalent}
 use Rattle.reedsolomon.proofs.Reach.{at-most-one-codeword-in-reach, erased-symbols-have-no-influence}
 use Rattle.reedsolomon.proofs.Encoding.{data-determine-the-codeword}
 
@@ -26,6 +29,11 @@ pub same-power : (m g a k : ℕ) → Element.power m g a k ≡ power (mul m g) 1
 unfolding Element.power power
 same-power m g a zero = refl
 same-power m g a (suc k) = ap (mul m g a) (same-power m g a k)
+
+-- every symbol of a word is an element, the zeros behind it too
+pub word-is-of-symbols : (m n : ℕ) (c : List ℕ) → WordOf (2 ^ m) n c → Symbols m c
+word-is-of-symbols m n c h j =
+    ⊎-elim (h .1 j) (λ l. subst⁻¹ (λ (x : ℕ). x < 2 ^ m) (List·getD-eq-default c 0 {n = j} (omega (arith, h .0, l))) (pow-pos m)) (lt-or-le j n)
 
 -- what an erased column holds has no influence on the answer
 pub erased-symbols-do-not-change-the-answer : (m g N T : ℕ) (w v marks : List ℕ) → ((j : ℕ) → j < N → marked marks j ≡ false → symbol w j ≡ symbol v j)

@@ -5,12 +5,8 @@ use mathlib.Core.List.{List, [], _∷_, List·Memᴰ, List·Memᴰ·head, List·
 use Prim.Native.Nat.{ℕ, zero, suc, _<_}
 use native.Mathlib.Nat.{not-suc-le-zero, le-of-suc-le-suc, eq-or-lt-of-le, suc-inj, lt-suc-self, le-trans, le-suc, zero-lt-suc}
 use native.Mathlib.Omega.{arith}
-use lib.ListN.{length, getD}
-use Rattle.reedsolomon.specs.Search.{inFront, longer, words, first, OuterAnswer, Found, NoneInReach}
-
--- c is a word of n symbols below q
-abbrev pub WordOf : ℕ → ℕ → List ℕ → Type 0
-WordOf q n c = (length c ≡ n) × ((j : ℕ) → j < n → getD c j 0 < q)
+use lib.ListN.{getD}
+use Rattle.reedsolomon.specs.Search.{inFront, longer, words, WordOf, first, OuterAnswer, Found, NoneInReach}
 
 with-symbol-in-front : (q a : ℕ) (w : List ℕ) (ws : List (List ℕ)) → a < q → List·Memᴰ (a ∷ w) (inFront q w ws)
 unfolding inFront

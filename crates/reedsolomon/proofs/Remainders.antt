@@ -9,10 +9,10 @@ use Rattle.poly.specs.Polynomial.{add}
 use Rattle.poly.proofs.Sum.{lt-or-le}
 use Rattle.field.specs.Element.{mul, α, Primitive}
 use Rattle.reedsolomon.specs.Words.{Codeword}
+use Rattle.reedsolomon.specs.Search.{WordOf}
 use Rattle.reedsolomon.specs.Row.{symbol, Symbols, IsCodeword, HasInFront, encodedRow}
 use Rattle.reedsolomon.specs.Steps.{WrittenAt, RowRoots, IsRemainder}
 use Rattle.reedsolomon.proofs.Encoding.{data-with-remainder-are-a-codeword}
-use Rattle.reedsolomon.proofs.Finding.{WordOf}
 use Rattle.reedsolomon.proofs.Answers.{K, encoded-row-if}
 
 pub zeros-at : (n j : ℕ) → symbol (replicate n 0) j ≡ 0

@@ -3,7 +3,12 @@ use mathlib.Core.List.{List, [], _∷_}
 use Prim.Native.Nat.{ℕ, zero, suc, _<_}
 use native.Mathlib.Nat.{not-suc-le-zero, le-trans, le-suc, lt-suc-self}
 use mathlib.Core.Logic.{⊎-elim}
-use mathlib.Core.Path.{subst, sym}
+use mathlib.Core.Path.{_≡_, subst, sym}
+use lib.ListN.{length, getD}
+
+-- c is a word of n symbols below q
+abbrev pub WordOf : ℕ → ℕ → List ℕ → Type 0
+WordOf q n c = (length c ≡ n) × ((j : ℕ) → j < n → getD c j 0 < q)
 
 -- w with each symbol below q in front, and then the words of ws
 unfoldable pub inFront : ℕ → List ℕ → List (List ℕ) → List (List ℕ)

@@ -6,6 +6,7 @@ ghost use Prim.Native.Nat.{ℕ, _-_, _<_, _≤_};
 ghost use lib.Dec.{eqb};
 ghost use lib.ListN.{length, getD};
 ghost use Rattle.column.specs.Shape.{short};
+ghost use Rattle.reedsolomon.specs.Search.{WordOf};
 ghost use Rattle.packing.specs.Packing.{digit};
 ghost use Rattle.concatenated.specs.Soft.{takenOffBy};
 ghost use Rattle.concatenated.specs.SoftPage.{Soft, columnOff};
@@ -40,7 +41,7 @@ fn column_off(w: u64, column: [u8; 30]) -> [u8; 30]
 
 // Takes the level words of a row's symbols off the columns.
 pub fn take_off(work: &mut [[u8; 30]; 63], level: usize, row: &[u8; 63])
-    requires { ⌜ (level < 4) × SoftColumns (now work) × (length (now row) ≡ 63) × ((j : ℕ) → getD (now row) j 0 < 64) ⌝ }
+    requires { ⌜ (level < 4) × SoftColumns (now work) × WordOf 64 63 (now row) ⌝ }
     ensures { λ r. ⌜ now (work .exit) ≡ rowOff short level (now (row .entry)) (now (work .entry)) ⌝ }
 {
     let mut j: usize = 0;

@@ -6,7 +6,7 @@ use lib.ListN.{length, length-map}
 use Rattle.concatenated.specs.Readers.{shortReader}
 use Rattle.readings.specs.Steps.{searchOf}
 use Rattle.levels.specs.Levels.{LevelDone}
-use Rattle.levels.proofs.LevelSteps.{read-long, read-small, soft-off, settled-row-is-a-word, level-refused, level-settled}
+use Rattle.levels.proofs.LevelSteps.{read-long, read-symbols, soft-off, settled-row-is-a-word, level-refused, level-settled}
 use borrow.Author.Needs.{needs}
 use Rattle.levels.proofs.decode_level.Statement.{statement}
 use Rattle.levels.proofs.decode_level.Tie as tie
@@ -49,7 +49,7 @@ decode-requires c κs =
     let work = start .args .work .now in
     let long : length (map (shortReader kind (start .args .limit) level) work) ≡ 63 = length-map work (shortReader kind (start .args .limit) level) ∙ start .pre .2 .many in
     let longs = read-long _ _ _ _ _ (read .read-row .ensures .0) long in
-    (longs .0, longs .1, refl, read-small kind (start .args .limit) level (start .pre .0) work _ _ _ (read .read-row .ensures .0), c .before .roots .ensures .1)
+    (longs .0, longs .1, refl, read-symbols kind (start .args .limit) level (start .pre .0) work _ _ _ (read .read-row .ensures .0), c .before .roots .ensures .1)
 
 changed-columns-requires : tie.Need-changed-columns-requires
 changed-columns-requires c κs =
@@ -62,7 +62,7 @@ changed-columns-requires c κs =
     let long : length (map (shortReader kind (start .args .limit) level) work) ≡ 63 = length-map work (shortReader kind (start .args .limit) level) ∙ start .pre .2 .many in
     let longs = read-long _ _ _ _ _ (read .read-row .ensures .0) long in
     let word = settled-row-is-a-word level (start .pre .0) _ long _ _ _ (read .read-row .ensures .0) _ (given .before .before .roots .ensures .0) _ _ _ (given .decode .ensures) (c .before .before .before .if1 .taken) in
-    (longs .0, longs .1, word .long)
+    (longs .0, longs .1, word .0)
 
 take-off-requires : tie.Need-take-off-requires
 take-off-requires c κs =
@@ -74,7 +74,7 @@ take-off-requires c κs =
     let work = start .args .work .now in
     let long : length (map (shortReader kind (start .args .limit) level) work) ≡ 63 = length-map work (shortReader kind (start .args .limit) level) ∙ start .pre .2 .many in
     let word = settled-row-is-a-word level (start .pre .0) _ long _ _ _ (read .read-row .ensures .0) _ (given .before .before .roots .ensures .0) _ _ _ (given .decode .ensures) (c .before .before .before .before .before .before .if1 .taken) in
-    (start .pre .0, start .pre .2, word .long, word .small)
+    (start .pre .0, start .pre .2, word)
 
 returns : tie.Need-returns
 unfolding LevelDone
@@ -91,7 +91,7 @@ returns c =
     let word = settled-row-is-a-word level (start .pre .0) _ long _ _ _ (read .read-row .ensures .0) _ t _ _ _ (given .decode .ensures) taken in (
       level-settled level (start .pre .0) _ long _ _ _ (read .read-row .ensures .0) _ t _ _ _ (given .decode .ensures) taken work _ _ refl refl (c .before .before .before .changed-columns .ensures) refl refl (c .take-off .ensures),
       read .read-row .ensures .0 .few,
-      soft-off level _ work _ (word .long) (start .pre .2) (c .take-off .ensures),
+      soft-off level _ work _ (word .0) (start .pre .2) (c .take-off .ensures),
       read .read-row .ensures .1,
     )
 

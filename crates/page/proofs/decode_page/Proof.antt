@@ -8,7 +8,7 @@ use Rattle.concatenated.specs.Readers.{shortReader}
 use Rattle.readings.specs.Steps.{searchOf}
 use Rattle.concatenated.specs.OuterCode.{shortOuter}
 use Rattle.page.specs.Outcomes.{outcomeOf, dataAfter}
-use Rattle.page.proofs.PageOutcomes.{soft-columns, is-answered, is-refused, rows-data-is-200, rows-data-small, answered-outcome, answered-data}
+use Rattle.page.proofs.PageOutcomes.{soft-columns, is-answered, is-refused, rows-data-is-a-word, answered-outcome, answered-data}
 use borrow.Author.Needs.{needs}
 use Rattle.page.proofs.decode_page.Statement.{statement}
 use Rattle.page.proofs.decode_page.Tie as tie
@@ -34,7 +34,7 @@ rows-data-requires c κs =
     let read = shortReader (searchOf (start .args .in-supercodes)) (start .args .limit) in
     let told = c .before .before .before .outcome .given in
     let answer = is-answered read _ _ _ _ _ (left .decode-columns .ensures) (told .0 .0) (told .1) in
-    (answer .good .four, refl, answer .good .long)
+    (answer .good .four, refl, λ i h. answer .good .words i h .0)
 
 bytes-of-requires : tie.Need-bytes-of-requires
 bytes-of-requires c κs =
@@ -44,7 +44,7 @@ bytes-of-requires c κs =
     let told = c .before .before .before .before .before .before .outcome .given in
     let answer = is-answered read _ _ _ _ _ (left .decode-columns .ensures) (told .0 .0) (told .1) in
     let put = c .before .before .rows-data .ensures in
-    (rows-data-is-200 _ _ (answer .good) put, start .pre .3, rows-data-small _ _ (answer .good) put)
+    (rows-data-is-a-word _ _ (answer .good) put, start .pre .3)
 
 totals-requires : tie.Need-totals-requires
 totals-requires c κs =

@@ -11,7 +11,7 @@ use Rattle.concatenated.specs.Written.{writtenRows}
 use Rattle.concatenated.specs.OuterCode.{shortEncoder}
 use Rattle.concatenated.proofs.DataGroups.{row-data-within-200}
 use Rattle.concatenated.proofs.OuterJoint.{roots-of-rows}
-use Rattle.page.proofs.RowEncoding.{four-rows, part-and-roots, part-small, row-written, next-place}
+use Rattle.page.proofs.RowEncoding.{four-rows, part-and-roots, part-is-of-symbols, row-written, next-place}
 use native.Mathlib.Omega.{arith}
 use borrow.Author.Needs.{needs}
 use Rattle.page.proofs.encode_rows.Statement.{statement}
@@ -60,7 +60,7 @@ encode-requires c κs =
     let h = c .before .before .before .before .loop-test .taken in
     let t = c .before .before .before .roots .ensures .0 in
     let level = turn .loop .level in
-    (subst⁻¹ RowRoots t (roots-of-rows level h), part-and-roots bytes level h _ (made .symbols-of .ensures) _ _ (turn .loop .inv .1) t, part-small bytes level h _ (made .symbols-of .ensures) _ _ (turn .loop .inv .1) t, refl)
+    (subst⁻¹ RowRoots t (roots-of-rows level h), part-and-roots bytes level h _ (made .symbols-of .ensures) _ _ (turn .loop .inv .1) t, part-is-of-symbols bytes level h _ (made .symbols-of .ensures) _ _ (turn .loop .inv .1) t, refl)
 
 mul-t12 : tie.Need-mul-t12 Inv-loop μ-loop
 mul-t12 c = search needs

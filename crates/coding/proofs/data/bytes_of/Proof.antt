@@ -50,8 +50,10 @@ element-copy-out-pack-4 c = search needs
 pack-requires : tie.Need-pack-requires Inv-loop μ-loop
 pack-requires c κs =
     let turn = c .before .before .before .before .before in
-    let small = turn .before .before .pre .2 in
-    (small (turn .loop .g * 4), small (turn .loop .g * 4 + 1), small (turn .loop .g * 4 + 2), small (turn .loop .g * 4 + 3))
+    let small = turn .before .before .pre .0 .1 in
+    let g = turn .loop .g in
+    let h = c .before .before .before .before .loop-test .taken in
+    (small (g * 4) (omega (arith, h)), small (g * 4 + 1) (omega (arith, h)), small (g * 4 + 2) (omega (arith, h)), small (g * 4 + 3) (omega (arith, h)))
 
 slice-write-out : tie.Need-slice-write-out Inv-loop μ-loop
 slice-write-out c = search needs
@@ -81,7 +83,7 @@ loop-less c = search needs
 loop-again : tie.Need-loop-again Inv-loop μ-loop
 loop-again c =
     let turn = c .before .before .before .before .before .before in
-    bytes-more _ _ (turn .loop .g) (c .pack .result) (turn .before .before .pre .0) (c .before .before .before .before .before .loop-test .taken) (turn .loop .inv) (c .pack .ensures)
+    bytes-more _ _ (turn .loop .g) (c .pack .result) (turn .before .before .pre .0 .0) (c .before .before .before .before .before .loop-test .taken) (turn .loop .inv) (c .pack .ensures)
 
 same-length : tie.Need-same-length Inv-loop μ-loop
 same-length c = search needs

@@ -37,37 +37,40 @@ array-read-encode : tie.Need-array-read-encode Inv-loop μ-loop
 array-read-encode c = search needs
 
 cast-encode : tie.Need-cast-encode Inv-loop μ-loop
-cast-encode c = record { fits = omega (arith, c .before .before .before .before .before .before .before .pre .0 .small 0 (c .before .loop .j)) }
+cast-encode c = record { fits = omega (arith, c .before .before .before .before .before .before .before .pre .0 .words 0 (omega arith) .1 (c .before .loop .j) (c .loop-test .taken)) }
 
 array-read-encode-2 : tie.Need-array-read-encode-2 Inv-loop μ-loop
 array-read-encode-2 c = search needs
 
 cast-encode-2 : tie.Need-cast-encode-2 Inv-loop μ-loop
-cast-encode-2 c = record { fits = omega (arith, c .before .before .before .before .before .before .before .pre .0 .small 1 (c .before .loop .j)) }
+cast-encode-2 c = record { fits = omega (arith, c .before .before .before .before .before .before .before .pre .0 .words 1 (omega arith) .1 (c .before .loop .j) (c .loop-test .taken)) }
 
 array-read-encode-3 : tie.Need-array-read-encode-3 Inv-loop μ-loop
 array-read-encode-3 c = search needs
 
 cast-encode-3 : tie.Need-cast-encode-3 Inv-loop μ-loop
-cast-encode-3 c = record { fits = omega (arith, c .before .before .before .before .before .before .before .pre .0 .small 2 (c .before .loop .j)) }
+cast-encode-3 c = record { fits = omega (arith, c .before .before .before .before .before .before .before .pre .0 .words 2 (omega arith) .1 (c .before .loop .j) (c .loop-test .taken)) }
 
 array-read-encode-4 : tie.Need-array-read-encode-4 Inv-loop μ-loop
 array-read-encode-4 c = search needs
 
 cast-encode-4 : tie.Need-cast-encode-4 Inv-loop μ-loop
-cast-encode-4 c = record { fits = omega (arith, c .before .before .before .before .before .before .before .pre .0 .small 3 (c .before .loop .j)) }
+cast-encode-4 c = record { fits = omega (arith, c .before .before .before .before .before .before .before .pre .0 .words 3 (omega arith) .1 (c .before .loop .j) (c .loop-test .taken)) }
 
 encode-requires : tie.Need-encode-requires Inv-loop μ-loop
 encode-requires c κs =
-    let small = c .before .before .before .before .before .before .before .pre .0 .small in
-    (small 0 (c .before .loop .j), small 1 (c .before .loop .j), small 2 (c .before .loop .j), small 3 (c .before .loop .j))
+    let words = c .before .before .before .before .before .before .before .pre .0 .words in
+    let j = c .before .loop .j in
+    let h = c .loop-test .taken in
+    (words 0 (omega arith) .1 j h, words 1 (omega arith) .1 j h, words 2 (omega arith) .1 j h, words 3 (omega arith) .1 j h)
 
 column-bytes-requires : tie.Need-column-bytes-requires Inv-loop μ-loop
 column-bytes-requires c κs =
     let turn = c .before .before in
-    let small = turn .before .before .before .before .before .before .pre .0 .small in
+    let words = turn .before .before .before .before .before .before .pre .0 .words in
     let j = turn .loop .j in
-    subst⁻¹ (λ (w : ℕ). w < 1073741824) (c .encode .ensures) (column-in-range _ _ _ _ (small 0 j) (small 1 j) (small 2 j) (small 3 j))
+    let h = c .before .loop-test .taken in
+    subst⁻¹ (λ (w : ℕ). w < 1073741824) (c .encode .ensures) (column-in-range _ _ _ _ (words 0 (omega arith) .1 j h) (words 1 (omega arith) .1 j h) (words 2 (omega arith) .1 j h) (words 3 (omega arith) .1 j h))
 
 mul-to : tie.Need-mul-to Inv-loop μ-loop
 mul-to c = search needs

@@ -22,7 +22,7 @@ abbrev μ-loop : tie.MeasureT-loop
 μ-loop work₀ level row j₀ work j = 63 - j
 
 loop-holds : tie.Need-loop-holds Inv-loop μ-loop
-loop-holds c = in-place-none _ _ 63 (row-off-length short _ _ _ (c .pre .2 ∙ sym (c .pre .1 .many)) ∙ c .pre .1 .many) (c .pre .1 .many)
+loop-holds c = in-place-none _ _ 63 (row-off-length short _ _ _ (c .pre .2 .0 ∙ sym (c .pre .1 .many)) ∙ c .pre .1 .many) (c .pre .1 .many)
 
 mul-column : tie.Need-mul-column Inv-loop μ-loop
 mul-column c = search needs
@@ -34,12 +34,12 @@ element-copy-out-level-word : tie.Need-element-copy-out-level-word Inv-loop μ-l
 element-copy-out-level-word c = search needs
 
 cast-level-word : tie.Need-cast-level-word Inv-loop μ-loop
-cast-level-word c = record { fits = omega (arith, c .before .before .before .before .pre .3 (c .before .before .before .loop .j)) }
+cast-level-word c = record { fits = omega (arith, c .before .before .before .before .pre .2 .1 (c .before .before .before .loop .j) (c .before .before .loop-test .taken)) }
 
 level-word-requires : tie.Need-level-word-requires Inv-loop μ-loop
 level-word-requires c κs =
     let start = c .before .before .before .before in
-    (start .pre .0, start .pre .3 (c .before .before .before .loop .j))
+    (start .pre .0, start .pre .2 .1 (c .before .before .before .loop .j) (c .before .before .loop-test .taken))
 
 column-off-requires : tie.Need-column-off-requires Inv-loop μ-loop
 column-off-requires c κs =
@@ -69,7 +69,7 @@ loop-again c =
     let h = c .before .before .before .before .loop-test .taken in
     let row = start .args .row .now in
     let work = start .args .work .now in
-    let long-row : j < length row = omega (arith, start .pre .2, h) in
+    let long-row : j < length row = omega (arith, start .pre .2 .0, h) in
     let long-work : j < length work = omega (arith, start .pre .1 .many, h) in
     in-place-more _ _ _ 63 _ _ [] (turn .loop .inv) h
     (c .column-off .ensures ∙ ap₂ columnOff (c .before .level-word .ensures) (in-place-at _ _ _ 63 j [] (turn .loop .inv)) ∙ sym (row-off-at short (start .args .level) row work j long-row long-work))
