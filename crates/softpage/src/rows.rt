@@ -2,9 +2,9 @@
 ghost use mathlib.Core.Bool.{false, cond, not};
 ghost use mathlib.Core.List.{map};
 ghost use mathlib.Core.Path.{_≡_};
-ghost use Prim.Native.Nat.{ℕ, _-_, _<_, _≤_};
+ghost use Prim.Native.Nat.{_-_, _<_, _≤_};
 ghost use lib.Dec.{eqb};
-ghost use lib.ListN.{length, getD};
+ghost use lib.ListN.{length};
 ghost use Rattle.column.specs.Shape.{short};
 ghost use Rattle.reedsolomon.specs.Search.{WordOf};
 ghost use Rattle.packing.specs.Packing.{digit};

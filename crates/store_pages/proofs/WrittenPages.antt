@@ -1,6 +1,6 @@
 -- Demand 2 of the calls: a written page comes back from either page decoder. Assumes nothing.
 use mathlib.Core.List.{List}
-use mathlib.Core.Path.{_≡_, refl, ap, _∙_}
+use mathlib.Core.Path.{_≡_, sym, ap, _∙_}
 use Prim.Native.Nat.{ℕ, _≤_}
 use borrow.Author.Tests.{eq-eqb, le-leb}
 use lib.ListN.{length}
@@ -8,8 +8,8 @@ use Rattle.dump.specs.Accepted.{Values}
 use Rattle.trellis.specs.Demand.{Search}
 use Rattle.concatenated.specs.Format.{shortPage}
 use Rattle.concatenated.specs.SoftPage.{softColumns}
-use Rattle.concatenated.specs.Decode.{PageAnswer, Level, answered, rows}
-use Rattle.concatenated.specs.Written.{writtenRows, columnsOf, bytesOfRows}
+use Rattle.concatenated.specs.Decode.{answered}
+use Rattle.concatenated.specs.Written.{writtenRows, columnsOf}
 use Rattle.concatenated.specs.Misread.{WithinReach}
 use Rattle.concatenated.specs.Readers.{shortReader}
 use Rattle.concatenated.specs.OuterCode.{shortOuter, shortEncoder, ShortCodeword}
@@ -19,27 +19,29 @@ use Rattle.concatenated.proofs.Digits.{Below}
 use Rattle.concatenated.proofs.OuterJoint.{outer-laws}
 use Rattle.concatenated.proofs.Short.{written-page-comes-back}
 use Rattle.store_pages.specs.Pages.{decodedPage, askPage, PageDecoded}
+use Rattle.store_pages.specs.WrittenPages.{CameBack}
 use Rattle.questions.proofs.AllInRange.{no-value-above}
-
-answered-number : (d : PageAnswer) (ls : List Level) (n : ℕ) → d ≡ answered ls n → outcomeOf d .number ≡ 0
-unfolding outcomeOf
-answered-number d ls n e = rw e refl
-
-answered-data : (old : List ℕ) (d : PageAnswer) (ls : List Level) (n : ℕ) → d ≡ answered ls n → dataAfter old d ≡ bytesOfRows shortPage (rows ls)
-unfolding dataAfter
-answered-data old d ls n e = rw e refl
 
 module _ (soft : List ℕ) (values-soft : Values 1890 7 soft) (limit : ℕ) (some : 1 ≤ limit) (at-most : limit ≤ 2000) (old : List ℕ) (room : length old ≡ 150) where
   all-yes : {A : Type 0} (refusal : ℕ → ℕ → A) (next : A) → askPage soft limit old refusal next ≡ next
   all-yes refusal next = simp (eq-eqb _ _ (values-soft .size), eq-eqb _ _ room, le-leb _ _ some, le-leb _ _ at-most, no-value-above soft 1890 7 (values-soft .size) (values-soft .range))
 
-  -- what `encode_page` wrote, read within reach at each level, is answered with number 0, and the buffer holds the data
+  -- what `encode_page` wrote, read within reach at each level, comes back from the call
   pub written-page-comes-back-from-the-calls : (s : Search) (bytes : List ℕ) → length bytes ≡ 150 → Below 256 bytes
       → WithinReach shortPage shortOuter (shortReader s limit) (columnsOf 63 (writtenRows shortPage shortEncoder bytes)) (softColumns shortPage soft)
-      → (r : PageOutcome) (new : List ℕ) → PageDecoded s soft limit old r new → (r .number ≡ 0) × (new ≡ bytes)
+      → (r : PageOutcome) (new : List ℕ) → PageDecoded s soft limit old r new → CameBack (decodedPage s soft limit) bytes r new
+  unfolding outcomeOf dataAfter
   written-page-comes-back-from-the-calls s bytes full are-bytes within r new call =
       let back = written-page-comes-back shortOuter shortEncoder ShortCodeword outer-laws s limit bytes full are-bytes soft within in
-      let D = decodedPage s soft limit in (
-        ap (λ (x : PageOutcome). x .number) (call .answer ∙ all-yes refusedPage (outcomeOf D)) ∙ answered-number D (back .0) (back .1) (back .2),
-        call .bytes ∙ all-yes (λ n p. old) (dataAfter old D) ∙ answered-data old D (back .0) (back .1) (back .2) ∙ back .4,
-      )
+      let D = decodedPage s soft limit in
+      let outcome : r ≡ outcomeOf (answered (back .0) (back .1)) = call .answer ∙ all-yes refusedPage (outcomeOf D) ∙ ap outcomeOf (back .2) in
+      record {
+        number = ap (λ (x : PageOutcome). x .number) outcome;
+        place = ap (λ (x : PageOutcome). x .place) outcome;
+        data-are = call .bytes ∙ all-yes (λ n p. old) (dataAfter old D) ∙ ap (dataAfter old) (back .2) ∙ back .4;
+        levels = back .0;
+        answered-so = back .2 ∙ ap (λ (x : PageOutcome). answered (back .0) (x .steps)) (sym outcome);
+        rows-are-written = back .3;
+        changed = ap (λ (x : PageOutcome). x .changed) outcome;
+        erased = ap (λ (x : PageOutcome). x .erased) outcome;
+      }

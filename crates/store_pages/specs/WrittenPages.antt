@@ -1,0 +1,21 @@
+-- Demand 2, of the calls: what a page decoder gives for a written page. Assumes nothing.
+use mathlib.Core.List.{List}
+use mathlib.Core.Path.{_≡_}
+use Prim.Native.Nat.{ℕ}
+use Rattle.concatenated.specs.Format.{shortPage}
+use Rattle.concatenated.specs.Decode.{PageAnswer, answered, Level, rows}
+use Rattle.concatenated.specs.Written.{writtenRows}
+use Rattle.concatenated.specs.OuterCode.{shortEncoder}
+use Rattle.page.specs.Outcomes.{changedTotals, erasedTotals}
+use Rattle.page.specs.declared.PageOutcome.{PageOutcome}
+
+-- demand 2: "A written page comes back": the call answers with number 0, place 0 and the data; its totals and steps are those of levels whose rows are the written ones
+pub record CameBack (answer : PageAnswer) (bytes : List ℕ) (r : PageOutcome) (new : List ℕ) : Type 0 where
+  pub number : r .number ≡ 0
+  pub place : r .place ≡ 0
+  pub data-are : new ≡ bytes
+  pub levels : List Level
+  pub answered-so : answer ≡ answered levels (r .steps)
+  pub rows-are-written : rows levels ≡ writtenRows shortPage shortEncoder bytes
+  pub changed : r .changed ≡ changedTotals levels
+  pub erased : r .erased ≡ erasedTotals levels
