@@ -12,7 +12,7 @@ use Rattle.reedsolomon.specs.Words.{indicator, count, unequal, wrong, errors, I
 use Rattle.reedsolomon.specs.Row.{symbol}
 use Rattle.concatenated.specs.Lists.{total}
 use Rattle.concatenated.specs.Outer.{isIn}
-use Rattle.concatenated.specs.Decode.{changed}
+use Rattle.concatenated.specs.Decode.{isChanged, changed}
 
 -- ---- counting from the front
 
@@ -34,7 +34,7 @@ unfolding indicator
 one-for-true true = refl
 one-for-true false = refl
 
-changed-is-wrong : (m : Bool) (x y : ℕ) → cond (cond m false (not (eqb x y))) 1 0 ≡ wrong m (ℕ-discrete x y)
+changed-is-wrong : (m : Bool) (x y : ℕ) → cond (isChanged m x y) 1 0 ≡ wrong m (ℕ-discrete x y)
 unfolding wrong unequal
 changed-is-wrong true x y = refl
 changed-is-wrong false x y = go (ℕ-discrete x y)

@@ -1,18 +1,17 @@
 -- The entries of what a level makes, one by one. Assumes nothing.
-use mathlib.Core.Bool.{Bool, false, cond, not}
+use mathlib.Core.Bool.{Bool, false}
 use mathlib.Core.List.{List, [], _∷_, map}
 use mathlib.Core.Path.{_≡_, refl, ap, _∙_}
 use Prim.Native.Nat.{ℕ, zero, suc, _-_, _<_}
 use native.Mathlib.Nat.{not-suc-le-zero, le-of-suc-le-suc, suc-inj}
 use native.Mathlib.Omega.{arith}
-use lib.Dec.{eqb}
 use lib.ListN.{length, getD}
 use Rattle.column.specs.Shape.{Shape}
 use Rattle.column.specs.Level.{levelWord}
 use Rattle.packing.specs.Packing.{digit}
 use Rattle.concatenated.specs.Soft.{takenOffBy}
 use Rattle.concatenated.specs.SoftPage.{columnOff}
-use Rattle.concatenated.specs.Decode.{changed, rowOff}
+use Rattle.concatenated.specs.Decode.{isChanged, changed, rowOff}
 
 pub map-at : {A B : Type 0} (f : A → B) (xs : List A) (j : ℕ) (d : A) (e : B) → j < length xs → getD (map f xs) j e ≡ f (getD xs j d)
 map-at f [] j d e h = absurd (not-suc-le-zero h)
@@ -46,7 +45,7 @@ changed-length (x ∷ xs) (m ∷ ms) [] e f = absurd (omega arith)
 changed-length (x ∷ xs) (m ∷ ms) (y ∷ r) e f = ap suc (changed-length xs ms r (suc-inj e) (suc-inj f))
 
 pub changed-at : (xs : List ℕ) (ms : List Bool) (r : List ℕ) (j : ℕ) → length ms ≡ length xs → length r ≡ length xs → j < length xs
-    → getD (changed xs ms r) j false ≡ cond (getD ms j false) false (not (eqb (getD xs j 0) (getD r j 0)))
+    → getD (changed xs ms r) j false ≡ isChanged (getD ms j false) (getD xs j 0) (getD r j 0)
 unfolding changed
 changed-at [] ms r j e f h = absurd (not-suc-le-zero h)
 changed-at (x ∷ xs) [] r j e f h = absurd (omega arith)

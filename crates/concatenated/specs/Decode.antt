@@ -44,12 +44,15 @@ marks = map mark
 abbrev pub steps : List Reading → ℕ
 steps rs = sum (map count rs)
 
--- 01: "Changed columns are unerased ones whose symbol the row altered."
+-- 01: "Changed columns are unerased ones whose symbol the row altered.": a column with mark m and symbol x, y being the row's
+abbrev pub isChanged : Bool → ℕ → ℕ → Bool
+isChanged m x y = cond m false (not (eqb x y))
+
 unfoldable pub changed : List ℕ → List Bool → List ℕ → List Bool
 changed [] ms r = []
 changed (x ∷ xs) [] r = []
 changed (x ∷ xs) (m ∷ ms) [] = []
-changed (x ∷ xs) (m ∷ ms) (y ∷ r) = cond m false (not (eqb x y)) ∷ changed xs ms r
+changed (x ∷ xs) (m ∷ ms) (y ∷ r) = isChanged m x y ∷ changed xs ms r
 
 -- 01: "each column's level word is taken off": that of the row's symbol, off erased columns too
 unfoldable pub rowOff : Shape → ℕ → List ℕ → List (List ℕ) → List (List ℕ)

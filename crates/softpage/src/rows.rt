@@ -1,16 +1,14 @@
 // What a decoded row does to the columns: its level words are taken off, and the columns that it altered are told.
-ghost use mathlib.Core.Bool.{false, cond, not};
 ghost use mathlib.Core.List.{map};
 ghost use mathlib.Core.Path.{_≡_};
 ghost use Prim.Native.Nat.{_-_, _<_, _≤_};
-ghost use lib.Dec.{eqb};
 ghost use lib.ListN.{length};
 ghost use Rattle.column.specs.Shape.{short};
 ghost use Rattle.reedsolomon.specs.Search.{WordOf};
 ghost use Rattle.packing.specs.Packing.{digit};
 ghost use Rattle.concatenated.specs.Soft.{takenOffBy};
 ghost use Rattle.concatenated.specs.SoftPage.{Soft, columnOff};
-ghost use Rattle.concatenated.specs.Decode.{rowOff, changed};
+ghost use Rattle.concatenated.specs.Decode.{rowOff, isChanged, changed};
 ghost use Rattle.concatenated.specs.Flags.{flag, isOne};
 ghost use Rattle.concatenated.specs.Arrays.{SoftColumns};
 
@@ -55,7 +53,7 @@ pub fn take_off(work: &mut [[u8; 30]; 63], level: usize, row: &[u8; 63])
 
 // Whether a row altered the symbol of an unerased column.
 fn altered(x: u8, m: u8, y: u8) -> u8
-    ensures { λ r. ⌜ r ≡ flag (cond (isOne m) false (not (eqb x y))) ⌝ }
+    ensures { λ r. ⌜ r ≡ flag (isChanged (isOne m) x y) ⌝ }
 {
     if m == 1 {
         return 0;

@@ -2,11 +2,10 @@
 use mathlib.Core.Path.{_≡_, refl, sym, ap, _∙_}
 use Prim.Native.Nat.{_-_, _<_}
 use Rattle.concatenated.proofs.Filling.{Front, front-none, front-more, front-all}
-use mathlib.Core.Bool.{Bool, false, cond, not}
+use mathlib.Core.Bool.{Bool, false}
 use mathlib.Core.List.{map}
-use lib.Dec.{eqb}
 use lib.ListN.{length, length-map, getD}
-use Rattle.concatenated.specs.Decode.{changed}
+use Rattle.concatenated.specs.Decode.{isChanged, changed}
 use Rattle.concatenated.specs.Flags.{flag, isOne}
 use Rattle.concatenated.proofs.Entries.{map-at, changed-length, changed-at}
 use native.Mathlib.Omega.{arith}
@@ -64,7 +63,7 @@ loop-again c =
     let in-marks : j < length marks = omega (arith, start .pre .1, h) in
     let in-changed : j < length (changed symbols (map isOne marks) row) = omega (arith, changed-length symbols (map isOne marks) row long-marks long-row, in-symbols) in
     front-more _ _ 63 _ _ 0 (turn .loop .inv) h
-    (c .altered .ensures ∙ ap (λ (m : Bool). flag (cond m false (not (eqb (getD symbols j 0) (getD row j 0))))) (sym (map-at isOne marks j 0 false in-marks))
+    (c .altered .ensures ∙ ap (λ (m : Bool). flag (isChanged m (getD symbols j 0) (getD row j 0))) (sym (map-at isOne marks j 0 false in-marks))
     ∙ ap flag (sym (changed-at symbols (map isOne marks) row j long-marks long-row in-symbols)) ∙ sym (map-at flag (changed symbols (map isOne marks) row) j false 0 in-changed))
 
 returns : tie.Need-returns Inv-loop μ-loop
