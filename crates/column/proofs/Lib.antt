@@ -7,5 +7,4 @@ pub mod Checks
 pub mod MaskTable
 pub mod Supercodes
 pub mod Short
-pub mod ShortMasks
 pub mod FactorRoots

@@ -1,20 +1,16 @@
--- One test that is computed over a table says that its entries are the masks. Assumes nothing.
-use mathlib.Core.Path.{_≡_, refl, sym, ap, ap₂, _∙_, subst}
-use mathlib.Core.Bool.{Bool, true, false}
-use mathlib.Core.Logic.{⊎-elim}
+-- The table of a code's masks, as it is computed. Assumes nothing.
+use mathlib.Core.Path.{_≡_, refl, sym, ap, ap₂, _∙_, subst⁻¹}
 use mathlib.Core.List.{List, [], _∷_}
 use Prim.Native.Nat.{ℕ, zero, suc, _+_, _-_, _*_, _/_, _%_, _^_, _≤_, _<_}
 use native.Mathlib.Nat
 use native.Mathlib.Nat.{le-of-suc-le-suc, not-suc-le-zero, pow-suc}
 use native.Mathlib.Omega.{arith}
-use lib.Dec.{T, eqb, eqb→eq}
 use lib.ListN.{getD}
 use lib.Pow.{pow-add}
 use Rattle.poly.specs.Polynomial.{remainder, reduced}
-use Rattle.poly.proofs.Sum.{lt-or-le}
 use Rattle.poly.proofs.Remainder.{remainder-double}
 use Rattle.column.specs.Shape.{Code}
-use Rattle.column.specs.Mask.{check, maskIn, maskOf}
+use Rattle.column.specs.Mask.{check, maskIn, maskOf, MasksOf}
 
 -- r and what follows it, k numbers: each the remainder of x times the one before
 unfoldable pub residues : ℕ → ℕ → ℕ → ℕ → List ℕ
@@ -26,13 +22,17 @@ unfoldable pub maskBy : List ℕ → ℕ → ℕ → ℕ
 maskBy rs s zero = 0
 maskBy rs s (suc k) = getD rs (k + s) 0 / 2 ^ s % 2 * 2 ^ k + maskBy rs s k
 
--- the t first entries are the masks of the bits 1 to t, where words have n bits
-unfoldable pub masksBy : List ℕ → ℕ → List ℕ → ℕ → Bool
-masksBy rs n table zero = true
-masksBy rs n table (suc t) = elim (eqb (getD table t 0) (maskBy rs (n - suc t) (suc t))) [ true ↦ masksBy rs n table t | false ↦ false ]
+-- the masks of the bits t + 1 to t + k, where words have n bits
+unfoldable pub masksFrom : List ℕ → ℕ → ℕ → ℕ → List ℕ
+masksFrom rs n t zero = []
+masksFrom rs n t (suc k) = maskBy rs (n - suc t) (suc t) ∷ masksFrom rs n (suc t) k
 
-unfoldable pub maskTable : ℕ → Code → List ℕ → Bool
-maskTable n C table = masksBy (residues (C .degree) (C .generator) n (remainder (C .degree) (C .generator) 1)) n table n
+-- the table of a code's masks
+unfoldable pub maskTable : ℕ → Code → List ℕ
+maskTable n C = masksFrom (residues (C .degree) (C .generator) n (remainder (C .degree) (C .generator) 1)) n 0 n
+
+moved : (j i : ℕ) → j + suc i ≡ suc j + i
+moved j i = omega arith
 
 residue-at : (d g k j i : ℕ) → j < k → getD (residues d g k (remainder d g (2 ^ i))) j 0 ≡ remainder d g (2 ^ (j + i))
 unfolding residues
@@ -41,28 +41,16 @@ residue-at d g (suc k) zero i h = ap (λ (x : ℕ). remainder d g (2 ^ x)) (sym 
 residue-at d g (suc k) (suc j) i h =
     ap (λ (x : ℕ). getD (residues d g k x) j 0) (sym (remainder-double d g (2 ^ i)) ∙ ap (remainder d g) (sym (pow-suc 2 i)))
     ∙ residue-at d g k j (suc i) (le-of-suc-le-suc h) ∙ ap (λ (x : ℕ). remainder d g (2 ^ x)) (moved j i)
-  where
-    moved : (j i : ℕ) → j + suc i ≡ suc j + i
-    moved j i = omega arith
 
-masks-at : (rs : List ℕ) (n : ℕ) (table : List ℕ) (m : ℕ) → T (masksBy rs n table m) → (t : ℕ) → t < m → getD table t 0 ≡ maskBy rs (n - suc t) (suc t)
-unfolding masksBy
-masks-at rs n table zero h t l = absurd (not-suc-le-zero l)
-masks-at rs n table (suc m) h t l = go (eqb (getD table m 0) (maskBy rs (n - suc m) (suc m))) (eqb→eq _ _) h (λ k. masks-at rs n table m k t)
-  where
-    go : (b : Bool) → (T b → getD table m 0 ≡ maskBy rs (n - suc m) (suc m)) → T (elim b [ true ↦ masksBy rs n table m | false ↦ false ])
-        → (T (masksBy rs n table m) → t < m → getD table t 0 ≡ maskBy rs (n - suc t) (suc t)) → getD table t 0 ≡ maskBy rs (n - suc t) (suc t)
-    go false e h earlier = absurd h
-    go true e h earlier =
-        ⊎-elim (earlier h)
-        (λ k.
-        let same : m ≡ t = omega arith in
-        subst (λ (x : ℕ). getD table x 0 ≡ maskBy rs (n - suc x) (suc x)) same (e tt))
-        (lt-or-le t m)
+masks-at : (rs : List ℕ) (n t k j : ℕ) → j < k → getD (masksFrom rs n t k) j 0 ≡ maskBy rs (n - suc (j + t)) (suc (j + t))
+unfolding masksFrom
+masks-at rs n t zero j l = absurd (not-suc-le-zero l)
+masks-at rs n t (suc k) zero l = ap (λ (x : ℕ). maskBy rs (n - suc x) (suc x)) (sym (Nat.zero-add t))
+masks-at rs n t (suc k) (suc j) l = masks-at rs n (suc t) k j (le-of-suc-le-suc l) ∙ ap (λ (x : ℕ). maskBy rs (n - suc x) (suc x)) (moved j t)
 
-pub mask-at : (n : ℕ) (C : Code) (table : List ℕ) → T (maskTable n C table) → (t : ℕ) → t < n → getD table t 0 ≡ maskOf n C (suc t)
+pub masks-of : (n : ℕ) (C : Code) → MasksOf n C (maskTable n C)
 unfolding maskTable maskBy maskOf maskIn check
-mask-at n C table h t l = masks-at powers n table n h t l ∙ same (suc t) (Nat.le-refl (suc t))
+masks-of n C t l = masks-at powers n 0 n t l ∙ ap (λ (x : ℕ). maskBy powers (n - suc x) (suc x)) (Nat.add-zero t) ∙ same (suc t) (Nat.le-refl (suc t))
   where
     powers : List ℕ
     powers = residues (C .degree) (C .generator) n (remainder (C .degree) (C .generator) 1)
@@ -80,3 +68,11 @@ mask-at n C table h t l = masks-at powers n table n h t l ∙ same (suc t) (Nat.
     same : (k : ℕ) → k ≤ suc t → maskBy powers s k ≡ maskIn n C (suc t) k
     same zero m = refl
     same (suc k) m = ap₂ (λ (x y : ℕ). x / 2 ^ s % 2 * 2 ^ k + y) (power k m) (same k (Nat.le-of-lt m))
+
+-- a table that the code returns: which code's it is, is known by an equation, and the table computes to that code's masks
+pub masks-known : (n : ℕ) (C D : Code) → C ≡ D → (table : List ℕ) → table ≡ maskTable n D → MasksOf n C table
+masks-known n C D e table known = subst⁻¹ (λ (c : Code). MasksOf n c table) e (subst⁻¹ (MasksOf n D) known (masks-of n D))
+
+-- the same where it is the level that is known
+pub masks-known-at : (n : ℕ) (C : ℕ → Code) (i j : ℕ) → i ≡ j → (table : List ℕ) → table ≡ maskTable n (C j) → MasksOf n (C i) table
+masks-known-at n C i j e = masks-known n (C i) (C j) (ap C e)

@@ -25,11 +25,12 @@ use Rattle.paths.proofs.Booleans.{and-both}
 use Rattle.paths.proofs.Keys.{search-on-keys-is-search-on-paths}
 use Rattle.trellis.specs.Values.{Values}
 use Rattle.trellis.specs.Order.{bit, number, sum, before}
-use Rattle.trellis.specs.Keys.{Key, keyOf, keyExtension, keyPasses, keyNodes, keySearch}
+use Rattle.trellis.specs.Keys.{Key, keyOf, keyExtension, keyPasses, MasksFor, keyNodes, keySearch}
 use Rattle.trellis.specs.Trellis.{existsIn, searched}
-use Rattle.trellis.specs.Demand.{wholeTrellis, supercodeTrellis}
+use Rattle.trellis.specs.Demand.{Search, whole, supercode, trellis, wholeTrellis, supercodeTrellis}
 use Rattle.trellis.proofs.Order.{before-keys, bit-below}
 use Rattle.trellis.proofs.Existence.{exists-exactly}
+use Rattle.trellis.proofs.Demand.{Searchable, trellis-sound}
 
 bool-ext : (a b : Bool) → (a ≡ true → b ≡ true) → (b ≡ true → a ≡ true) → a ≡ b
 bool-ext true b f g = sym (f refl)
@@ -97,7 +98,7 @@ module _ (vs : Values) (soft left right : List ℕ) where
   module _ (S : Shape) (i : ℕ) where
     -- the level's masks on the left, and on the right masks that take nothing
     module _ (sound : ShapeSound S) (level : i < levels S) (left-of : MasksOf (S .bits) (levelCode S i) left) (none : (k : ℕ) → k < S .bits → getD right k 0 ≡ 0) where
-      pub keys-of-whole : KeysOf (wholeTrellis S vs soft i) (keyNodes (S .bits) vs soft left right) (keyOf vs soft)
+      keys-of-whole : KeysOf (wholeTrellis S vs soft i) (keyNodes (S .bits) vs soft left right) (keyOf vs soft)
       keys-of-whole =
           keys-of (wholeTrellis S vs soft i) refl
           (λ b p parent l.
@@ -106,7 +107,7 @@ module _ (vs : Values) (soft left right : List ℕ) where
 
     -- the masks of the two supercodes
     module _ (split : Split S i) (left-of : MasksOf (S .bits) (S .supercodes i .left) left) (right-of : MasksOf (S .bits) (S .supercodes i .right) right) where
-      pub keys-of-supercode : KeysOf (supercodeTrellis S vs soft i) (keyNodes (S .bits) vs soft left right) (keyOf vs soft)
+      keys-of-supercode : KeysOf (supercodeTrellis S vs soft i) (keyNodes (S .bits) vs soft left right) (keyOf vs soft)
       keys-of-supercode =
           keys-of (supercodeTrellis S vs soft i) refl
           (λ b p parent l.
@@ -125,15 +126,24 @@ by-bits (answer k c) = answer (k .bits) c
 by-bits (spent c) = spent c
 
 module _ (vs : Values) (soft left right : List ℕ) (t : Tree) (sound : Sound t) (keys : KeysOf t (keyNodes (t .size) vs soft left right) (keyOf vs soft)) where
-  pub key-search-has-the-keys : (limit : ℕ) → keySearch (t .size) vs soft left right limit ≡ with-key (keyOf vs soft) (limited-search t limit)
+  key-search-has-the-keys : (limit : ℕ) → keySearch (t .size) vs soft left right limit ≡ with-key (keyOf vs soft) (limited-search t limit)
   unfolding keySearch limited-search keyOf sum number
   key-search-has-the-keys limit = search-on-keys-is-search-on-paths t (keyNodes (t .size) vs soft left right) (keyOf vs soft) keys sound (λ k. true) limit
 
   -- the search on keys is the search
-  pub key-search-is-search : (limit : ℕ) → by-bits (keySearch (t .size) vs soft left right limit) ≡ searched t limit
+  key-search-is-search : (limit : ℕ) → by-bits (keySearch (t .size) vs soft left right limit) ≡ searched t limit
   unfolding with-key keyOf
   key-search-is-search limit = ap by-bits (key-search-has-the-keys limit) ∙ bits-of (limited-search t limit)
     where
       bits-of : (o : Outcome Path) → by-bits (with-key (keyOf vs soft) o) ≡ with-key number o
       bits-of (answer w c) = refl
       bits-of (spent c) = refl
+
+-- the search on keys by the masks of a search is that search
+module _ (S : Shape) (i : ℕ) (given : Searchable S i) (vs : Values) (soft left right : List ℕ) where
+  keys-of-trellis : (s : Search) → MasksFor s S i left right → KeysOf (trellis s S vs soft i) (keyNodes (S .bits) vs soft left right) (keyOf vs soft)
+  keys-of-trellis whole masks = keys-of-whole vs soft left right S i (given .sound) (given .level) (masks .0) (masks .1)
+  keys-of-trellis supercode masks = keys-of-supercode vs soft left right S i (given .split) (masks .0) (masks .1)
+
+  pub key-search-is-the-search : (s : Search) → MasksFor s S i left right → (limit : ℕ) → by-bits (keySearch (S .bits) vs soft left right limit) ≡ searched (trellis s S vs soft i) limit
+  key-search-is-the-search s masks = key-search-is-search vs soft left right (trellis s S vs soft i) (trellis-sound S i given vs soft s) (keys-of-trellis s masks)

@@ -1,60 +1,26 @@
--- The searches of the short page's columns, with 01's values and the tables of masks. Assumes nothing.
+-- Demand 3 for the short page's columns, with 01's values. Assumes nothing.
 use mathlib.Core.List.{List}
 use mathlib.Core.Logic.{_↔_}
 use mathlib.Core.Path.{_≡_, refl}
 use Prim.Native.Nat.{ℕ, _+_, _≤_, _<_}
 use lib.Dec.{lit<}
-use lib.ListN.{getD, getD-replicate}
 use Rattle.column.specs.Shape.{short, generator}
 use Rattle.column.proofs.Short as Shape
-use Rattle.column.proofs.ShortMasks.{levelMasks, leftMasks, rightMasks, noMasks, level-masks-of, left-masks-of, right-masks-of}
 use Rattle.paths.specs.Paths.{Path}
 use Rattle.paths.specs.Tree.{number as rank}
 use Rattle.paths.specs.Search.{answer, spent}
-use Rattle.paths.specs.Keys.{KeysOf}
 use Rattle.paths.specs.Dead.{dead-ahead}
 use Rattle.trellis.specs.Values.{values}
 use Rattle.trellis.specs.Order.{number}
-use Rattle.trellis.specs.Keys.{keyOf, keyNodes, keySearch}
 use Rattle.trellis.specs.Trellis.{searched}
-use Rattle.trellis.proofs.Keys.{keys-of-whole, keys-of-supercode, by-bits, key-search-is-search}
 use Rattle.trellis.proofs.Demand as Demand
-use Rattle.trellis.specs.Demand.{Search, whole, supercode, trellis, wholeTrellis, supercodeTrellis, AheadOfAll}
-use Rattle.trellis.proofs.Demand.{Searchable, trellis-sound}
+use Rattle.trellis.specs.Demand.{Search, trellis, wholeTrellis, supercodeTrellis, AheadOfAll}
+use Rattle.trellis.proofs.Demand.{Searchable}
 
 pub searchable : (i : ℕ) → i < 4 → Searchable short i
 searchable i h = record { sound = Shape.sound; some-bits = lit< tt; level = h; split = Shape.split i h }
 
--- the tables of masks that a search works with
-abbrev pub leftTable : Search → ℕ → List ℕ
-leftTable whole = levelMasks
-leftTable supercode = leftMasks
-
-abbrev pub rightTable : Search → ℕ → List ℕ
-rightTable whole i = noMasks
-rightTable supercode i = rightMasks i
-
-pub no-masks : (k : ℕ) → k < 30 → getD noMasks k 0 ≡ 0
-unfolding noMasks
-no-masks k l = getD-replicate 30 k 0 0 l
-
 module _ (i : ℕ) (h : i < 4) (soft : List ℕ) where
-  -- ---- the search on keys
-
-  pub keys-of-trellis : (s : Search) → KeysOf (trellis s short values soft i) (keyNodes 30 values soft (leftTable s i) (rightTable s i)) (keyOf values soft)
-  keys-of-trellis whole = keys-of-whole values soft (levelMasks i) noMasks short i Shape.sound h (level-masks-of i i refl h) no-masks
-  keys-of-trellis supercode =
-      keys-of-supercode values soft (leftMasks i) (rightMasks i) short i (Shape.split i h) (left-masks-of i i refl h) (right-masks-of i i refl h)
-
-  pub key-search-is-the-search : (s : Search) (limit : ℕ) → by-bits (keySearch 30 values soft (leftTable s i) (rightTable s i) limit) ≡ searched (trellis s short values soft i) limit
-  key-search-is-the-search whole =
-      key-search-is-search values soft (levelMasks i) noMasks (wholeTrellis short values soft i) (trellis-sound short i (searchable i h) values soft whole) (keys-of-trellis whole)
-  key-search-is-the-search supercode =
-      key-search-is-search values soft (leftMasks i) (rightMasks i) (supercodeTrellis short values soft i) (trellis-sound short i (searchable i h) values soft supercode)
-      (keys-of-trellis supercode)
-
-  -- ---- demand 3
-
   pub one-codeword-is-ahead-of-all : (w : Path) × AheadOfAll short values soft i w × ((v : Path) → AheadOfAll short values soft i v → v ≡ w)
   one-codeword-is-ahead-of-all = Demand.one-codeword-is-ahead-of-all short i (searchable i h) values soft
 

@@ -1,18 +1,21 @@
--- What the code knows of a path: its sum, its length and its bits as a number. Assumes nothing.
+-- For the code's contracts: what the code knows of a path, its sum, its length and its bits as a number, and the search on it. Assumes nothing.
 use mathlib.Core.Bool.{Bool, true, _&&_}
 use mathlib.Core.List.{List, []}
-use Prim.Native.Nat.{ℕ, suc, _+_, _-_, _*_}
+use mathlib.Core.Path.{_≡_}
+use Prim.Native.Nat.{ℕ, suc, _+_, _-_, _*_, _<_}
 use lib.Dec.{eqb, ltb}
 use lib.IntN.{ℤ, pos, _+ℤ_}
 use lib.ListN.{length, getD}
 use lib.Signed.{ltZ}
-use Rattle.column.specs.Mask.{parity}
+use Rattle.column.specs.Shape.{Shape, levelCode}
+use Rattle.column.specs.Mask.{parity, MasksOf}
 use Rattle.paths.specs.Paths.{Path}
 use Rattle.paths.specs.Stack.{Nodes, extend}
 use Rattle.paths.specs.Search.{Outcome}
 use Rattle.paths.specs.Keys.{run-keys}
 use Rattle.trellis.specs.Values.{Values, branch}
 use Rattle.trellis.specs.Order.{bit, number, sum, firstBy}
+use Rattle.trellis.specs.Demand.{Search, whole, supercode}
 
 pub record Key : Type 0 where
   pub sum : ℤ
@@ -40,6 +43,11 @@ keyExtension vs soft b k = key (k .sum +ℤ branch vs (bit b) (getD soft (k .len
 -- the newest bit passes the checks of two tables of masks
 unfoldable pub keyPasses : List ℕ → List ℕ → Key → Bool
 keyPasses left right k = eqb (parity (getD left (k .len - 1) 0) (k .bits)) 0 && eqb (parity (getD right (k .len - 1) 0) (k .bits)) 0
+
+-- the masks of a search: those of the level's code and none, or those of its two supercodes
+abbrev pub MasksFor : Search → Shape → ℕ → List ℕ → List ℕ → Type 0
+MasksFor whole S i left right = MasksOf (S .bits) (levelCode S i) left × ((k : ℕ) → k < S .bits → getD right k 0 ≡ 0)
+MasksFor supercode S i left right = MasksOf (S .bits) (S .supercodes i .left) left × MasksOf (S .bits) (S .supercodes i .right) right
 
 -- the nodes of the search on keys, for words of n bits
 abbrev pub keyNodes : ℕ → Values → List ℕ → List ℕ → List ℕ → Nodes Key

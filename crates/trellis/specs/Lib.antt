@@ -1,5 +1,5 @@
 pub mod Values
 pub mod Order
 pub mod Trellis
-pub mod Keys
 pub mod Demand
+pub mod Keys
