@@ -99,7 +99,7 @@ static int tally(found most, uint32_t word, const uint8_t *soft, int level, uint
     t->misread += !unread && most.word != word;
     t->steps += unread ? limit : most.count;
     if (!control) return 1;
-    found o = entry_search_supercode(soft, BITS, (uint64_t)level, limit);
+    found o = entry_search_supercode((uint64_t)level, soft, BITS, limit);
     return unread ? o.number == 9 : !o.number && o.word == most.word && o.count == most.count;
 }
 
@@ -124,7 +124,7 @@ static int columns(int rate, double spread, int level, int count) {
             soft[j] = reading(bit);
             wrong_bits += soft[j] / 4 != bit;
         }
-        found most = entry_search_supercode(soft, BITS, (uint64_t)level, limits[LIMITS - 1]);
+        found most = entry_search_supercode((uint64_t)level, soft, BITS, limits[LIMITS - 1]);
         for (int l = 0; l < LIMITS; l++) agree &= tally(most, word, soft, level, limits[l], c % CONTROL == 0, &tallies[l]);
     }
     for (int l = 0; l < LIMITS; l++)

@@ -21,9 +21,9 @@ typedef struct { const uint8_t *bytes; size_t count; } part;
 
 told entry_encode_column(const uint8_t *symbols, size_t count);
 told entry_level_word(uint64_t level, uint64_t symbol);
-told entry_reimage(uint64_t column, uint64_t level);
-found entry_search_whole(const uint8_t *soft, size_t count, uint64_t level, uint64_t limit);
-found entry_search_supercode(const uint8_t *soft, size_t count, uint64_t level, uint64_t limit);
+told entry_reimage(uint64_t level, uint64_t column);
+found entry_search_whole(uint64_t level, const uint8_t *soft, size_t count, uint64_t limit);
+found entry_search_supercode(uint64_t level, const uint8_t *soft, size_t count, uint64_t limit);
 filled entry_encode_row(uint64_t level, const uint8_t *data, size_t count, uint8_t *out, size_t room);
 filled entry_decode_row(uint64_t level, const uint8_t *symbols, size_t count, const uint8_t *marks, size_t marked, uint8_t *out, size_t room);
 filled entry_encode_page(const uint8_t *data, size_t count, uint8_t *out, size_t room);

@@ -61,14 +61,14 @@ static verdict code_line(const record *r) {
     if (!strcmp(r->field[0], "word") && r->count == 4)
         return is(entry_level_word(decimal(r->field[1]), decimal(r->field[2])), 0, 0, decimal(r->field[3]));
     if (!strcmp(r->field[0], "reimage") && r->count == 4)
-        return is(entry_reimage(decimal(r->field[2]), decimal(r->field[1])), 0, 0, decimal(r->field[3]));
+        return is(entry_reimage(decimal(r->field[1]), decimal(r->field[2])), 0, 0, decimal(r->field[3]));
     if (!strcmp(r->field[0], "reimage") && r->count == 6 && !strcmp(r->field[3], "refused"))
-        return is(entry_reimage(decimal(r->field[2]), decimal(r->field[1])), decimal(r->field[4]), decimal(r->field[5]), 0);
+        return is(entry_reimage(decimal(r->field[1]), decimal(r->field[2])), decimal(r->field[4]), decimal(r->field[5]), 0);
     return DIFFERS;
 }
 
 static found searched(const char *mode, const uint8_t *soft, size_t n, uint64_t level, uint64_t limit) {
-    return mode[0] == 'w' ? entry_search_whole(soft, n, level, limit) : entry_search_supercode(soft, n, level, limit);
+    return mode[0] == 'w' ? entry_search_whole(level, soft, n, limit) : entry_search_supercode(level, soft, n, limit);
 }
 
 /* columns.txt */
@@ -202,7 +202,7 @@ static verdict refusal_line(const record *r) {
         return refuses(t.number, t.place, r);
     }
     if (!strcmp(r->field[0], "reimage") && r->count == 5) {
-        told t = entry_reimage(decimal(r->field[2]), decimal(r->field[1]));
+        told t = entry_reimage(decimal(r->field[1]), decimal(r->field[2]));
         return refuses(t.number, t.place, r);
     }
     if (!strcmp(r->field[0], "search") && r->count == 7) {

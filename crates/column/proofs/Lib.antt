@@ -1,3 +1,4 @@
+pub mod Tabulated
 pub mod Levels
 pub mod Division
 pub mod Cascade

@@ -10,6 +10,8 @@ use lib.Pow.{pow-add}
 use Rattle.poly.specs.Polynomial.{remainder, reduced}
 use Rattle.poly.proofs.Remainder.{remainder-double}
 use Rattle.column.specs.Shape.{Code}
+use Rattle.column.specs.Tabulated.{tabulated}
+use Rattle.column.proofs.Tabulated.{tabulated-at}
 use Rattle.column.specs.Mask.{check, maskIn, maskOf, MasksOf}
 
 -- r and what follows it, k numbers: each the remainder of x times the one before
@@ -22,35 +24,22 @@ unfoldable pub maskBy : List ℕ → ℕ → ℕ → ℕ
 maskBy rs s zero = 0
 maskBy rs s (suc k) = getD rs (k + s) 0 / 2 ^ s % 2 * 2 ^ k + maskBy rs s k
 
--- the masks of the bits t + 1 to t + k, where words have n bits
-unfoldable pub masksFrom : List ℕ → ℕ → ℕ → ℕ → List ℕ
-masksFrom rs n t zero = []
-masksFrom rs n t (suc k) = maskBy rs (n - suc t) (suc t) ∷ masksFrom rs n (suc t) k
-
--- the table of a code's masks
+-- the table of a code's masks, where words have n bits
 unfoldable pub maskTable : ℕ → Code → List ℕ
-maskTable n C = masksFrom (residues (C .degree) (C .generator) n (remainder (C .degree) (C .generator) 1)) n 0 n
-
-moved : (j i : ℕ) → j + suc i ≡ suc j + i
-moved j i = omega arith
+maskTable n C = let powers = residues (C .degree) (C .generator) n (remainder (C .degree) (C .generator) 1) in tabulated (λ t. maskBy powers (n - suc t) (suc t)) 0 n
 
 residue-at : (d g k j i : ℕ) → j < k → getD (residues d g k (remainder d g (2 ^ i))) j 0 ≡ remainder d g (2 ^ (j + i))
 unfolding residues
 residue-at d g zero j i h = absurd (not-suc-le-zero h)
 residue-at d g (suc k) zero i h = ap (λ (x : ℕ). remainder d g (2 ^ x)) (sym (Nat.zero-add i))
 residue-at d g (suc k) (suc j) i h =
+    let moved : j + suc i ≡ suc j + i = omega arith in
     ap (λ (x : ℕ). getD (residues d g k x) j 0) (sym (remainder-double d g (2 ^ i)) ∙ ap (remainder d g) (sym (pow-suc 2 i)))
-    ∙ residue-at d g k j (suc i) (le-of-suc-le-suc h) ∙ ap (λ (x : ℕ). remainder d g (2 ^ x)) (moved j i)
-
-masks-at : (rs : List ℕ) (n t k j : ℕ) → j < k → getD (masksFrom rs n t k) j 0 ≡ maskBy rs (n - suc (j + t)) (suc (j + t))
-unfolding masksFrom
-masks-at rs n t zero j l = absurd (not-suc-le-zero l)
-masks-at rs n t (suc k) zero l = ap (λ (x : ℕ). maskBy rs (n - suc x) (suc x)) (sym (Nat.zero-add t))
-masks-at rs n t (suc k) (suc j) l = masks-at rs n (suc t) k j (le-of-suc-le-suc l) ∙ ap (λ (x : ℕ). maskBy rs (n - suc x) (suc x)) (moved j t)
+    ∙ residue-at d g k j (suc i) (le-of-suc-le-suc h) ∙ ap (λ (x : ℕ). remainder d g (2 ^ x)) moved
 
 pub masks-of : (n : ℕ) (C : Code) → MasksOf n C (maskTable n C)
 unfolding maskTable maskBy maskOf maskIn check
-masks-of n C t l = masks-at powers n 0 n t l ∙ ap (λ (x : ℕ). maskBy powers (n - suc x) (suc x)) (Nat.add-zero t) ∙ same (suc t) (Nat.le-refl (suc t))
+masks-of n C t l = tabulated-at (λ t. maskBy powers (n - suc t) (suc t)) n t 0 l ∙ same (suc t) (Nat.le-refl (suc t))
   where
     powers : List ℕ
     powers = residues (C .degree) (C .generator) n (remainder (C .degree) (C .generator) 1)

@@ -1,3 +1,4 @@
+pub mod Tabulated
 pub mod Shape
 pub mod Level
 pub mod Trellis

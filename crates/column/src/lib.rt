@@ -81,7 +81,7 @@ pub fn encode(s0: u64, s1: u64, s2: u64, s3: u64) -> u64
 }
 
 // Whether a column is a word of a level.
-pub fn is_word(column: u64, level: usize) -> bool
+pub fn is_word(level: usize, column: u64) -> bool
     requires { ⌜ level < 4 ⌝ }
     requires { ⌜ column < 2 ^ 30 ⌝ }
     ensures { λ r. ⌜ r ≡ isWord short level column ⌝ }
@@ -91,7 +91,7 @@ pub fn is_word(column: u64, level: usize) -> bool
 }
 
 // Re-imaging: the symbol of a level, after the words of the levels above were taken off, the highest first.
-pub fn reimage(column: u64, level: usize) -> u64
+pub fn reimage(level: usize, column: u64) -> u64
     requires { ⌜ level < 4 ⌝ }
     requires { ⌜ column < 2 ^ 30 ⌝ }
     ensures { λ r. ⌜ r ≡ reimaged short level column ⌝ }

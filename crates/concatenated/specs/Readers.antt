@@ -5,7 +5,7 @@ use mathlib.Core.Path.{_≡_}
 use Prim.Native.Nat.{ℕ, zero, suc, _+_, _<_}
 use Rattle.column.specs.Shape.{Shape, short}
 use Rattle.paths.specs.Paths.{Path}
-use Rattle.paths.specs.Search.{Outcome, answer, limited-search}
+use Rattle.paths.specs.Search.{SearchResult, answer, limited-search}
 use Rattle.paths.specs.Search
 use Rattle.paths.specs.Dead.{dead-ahead}
 use Rattle.trellis.specs.Values.{Values, values}
@@ -16,7 +16,7 @@ use Rattle.concatenated.specs.Outer.{RowDecoder}
 use Rattle.concatenated.specs.Decode.{Reading, found, spent, Reader, mark, State, going, stopped, PageAnswer, answered, refused, run, AtEveryLevel}
 
 -- 01: "a spent column counting the limit"
-unfoldable pub readingOf : ℕ → Outcome ℕ → Reading
+unfoldable pub readingOf : ℕ → SearchResult ℕ → Reading
 readingOf limit (answer w n) = found w n
 readingOf limit (Search.spent n) = spent limit
 
@@ -25,7 +25,7 @@ unfoldable pub readerOf : Kind → Shape → (ℕ → Values) → ℕ → Reader
 readerOf kind S vs limit i c = readingOf limit (searched (trellis kind S (vs i) c i) limit)
 
 -- the dead paths ahead of the word that was found
-unfoldable pub deadOf : (Path → ℕ) → Outcome Path → ℕ
+unfoldable pub deadOf : (Path → ℕ) → SearchResult Path → ℕ
 deadOf dead (answer w n) = dead w
 deadOf dead (Search.spent n) = 0
 

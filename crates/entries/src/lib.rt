@@ -60,10 +60,10 @@ pub extern "C" fn entry_level_word(level: u64, symbol: u64) -> Told
 }
 
 #[no_mangle]
-pub extern "C" fn entry_reimage(column: u64, level: u64) -> Told
-    ensures { λ r. ⌜ r ≡ toldOf (reimageAnswer column level) ⌝ }
+pub extern "C" fn entry_reimage(level: u64, column: u64) -> Told
+    ensures { λ r. ⌜ r ≡ toldOf (reimageAnswer level column) ⌝ }
 {
-    numbers_of(store_columns::reimage(column, level))
+    numbers_of(store_columns::reimage(level, column))
 }
 
 #[repr(C)]
@@ -94,17 +94,17 @@ fn numbers_of_search(answer: SearchAnswer) -> Found
 }
 
 #[no_mangle]
-pub extern "C" fn entry_search_whole(soft: &[u8], level: u64, limit: u64) -> Found
-    ensures { λ r. ⌜ r ≡ foundOf (searchAnswer whole (now (soft .entry)) level limit) ⌝ }
+pub extern "C" fn entry_search_whole(level: u64, soft: &[u8], limit: u64) -> Found
+    ensures { λ r. ⌜ r ≡ foundOf (searchAnswer whole level (now (soft .entry)) limit) ⌝ }
 {
-    numbers_of_search(store_searches::search_whole(soft, level, limit))
+    numbers_of_search(store_searches::search_whole(level, soft, limit))
 }
 
 #[no_mangle]
-pub extern "C" fn entry_search_supercode(soft: &[u8], level: u64, limit: u64) -> Found
-    ensures { λ r. ⌜ r ≡ foundOf (searchAnswer supercode (now (soft .entry)) level limit) ⌝ }
+pub extern "C" fn entry_search_supercode(level: u64, soft: &[u8], limit: u64) -> Found
+    ensures { λ r. ⌜ r ≡ foundOf (searchAnswer supercode level (now (soft .entry)) limit) ⌝ }
 {
-    numbers_of_search(store_searches::search_supercode(soft, level, limit))
+    numbers_of_search(store_searches::search_supercode(level, soft, limit))
 }
 
 #[repr(C)]

@@ -10,7 +10,7 @@ use lib.Count.{ones, ones-step}
 use borrow.Author.Tests.{eqb-true, eq-eqb, ne-eqb, eqb-false}
 use Rattle.column.specs.Mask.{parity}
 use Rattle.column.proofs.Parity.{parity-no-mask}
-use Rattle.extension.specs.Steps.{Odd}
+use Rattle.extension.specs.Steps.{ZeroOrOdd}
 
 -- one digit more
 ones-digit : (x r : ℕ) → r < 2 → ones (x * 2 + r) ≡ r + ones x
@@ -42,7 +42,7 @@ check-odd m b e t h =
     same-eq (ones (bitAnd (b * 2 + t) m) % 2) 0 (ones (bitAnd (b * 2) m) % 2) t (λ k. omega (arith, p, q)) (λ k. omega (arith, p, q))
 
 -- where a mask is 0 either bit passes; where it is odd, the bit that it asks for
-pub check : (m b u : ℕ) → Odd m → u ≡ parity m (b * 2) → (t : ℕ) → t < 2 → eqb (parity m (b * 2 + t)) 0 ≡ cond (eqb m 0) true (eqb u t)
+pub check : (m b u : ℕ) → ZeroOrOdd m → u ≡ parity m (b * 2) → (t : ℕ) → t < 2 → eqb (parity m (b * 2 + t)) 0 ≡ cond (eqb m 0) true (eqb u t)
 check m b u (inl z) e t h = rw (eq-eqb m 0 z, z) (eq-eqb (parity 0 (b * 2 + t)) 0 (parity-no-mask (b * 2 + t)))
 check m b u (inr z) e t h = rw (ne-eqb m 0 (omega arith), e) (check-odd m b z t h)
 

@@ -1,12 +1,13 @@
--- What a search is given, what its keys are like, and what a step does to the list that the heap holds. Assumes nothing.
+-- For the code's contracts: what a search is given, what its keys are like, and what a step does to the list that the heap holds. Assumes nothing.
 use mathlib.Core.Bool.{Bool}
 use mathlib.Core.List.{List, [], _∷_}
 use mathlib.Core.Logic.{_⊎_}
 use mathlib.Core.Path.{_≡_}
-use Prim.Native.Nat.{ℕ, suc, _+_, _-_, _*_, _%_, _^_, _≤_, _<_}
+use Prim.Native.Nat.{ℕ, suc, _+_, _-_, _*_, _/_, _%_, _^_, _≤_, _<_}
 use lib.Dec.{eqb}
 use lib.IntN.{ℤ, pos, natAbs, _+ℤ_}
 use lib.ListN.{length, getD}
+use Rattle.column.specs.Tabulated.{tabulated}
 use Rattle.paths.specs.Stack.{Nodes, grow}
 use Rattle.heap.specs.Heap.{weigh, Every, Heap}
 use Rattle.heap.specs.Holds.{Holds}
@@ -16,17 +17,16 @@ use Rattle.trellis.specs.Keys.{Key, key, keyBefore, keyPasses}
 use Rattle.stack.specs.Places.{Upto, Out}
 
 -- a mask that is 0, or has its lowest bit
-abbrev pub Odd : ℕ → Type 0
-Odd m = (m ≡ 0) ⊎ (m % 2 ≡ 1)
+abbrev pub ZeroOrOdd : ℕ → Type 0
+ZeroOrOdd m = (m ≡ 0) ⊎ (m % 2 ≡ 1)
 
 -- The entry 8 b + q of a table is what the soft value q gives to the bit b.
 pub record TableOf (vs : Values) (table : List ℤ) : Type 0 where
   pub entry : (b : Bool) (q : ℕ) → q < 8 → getD table (bit b * 8 + q) (pos 0) ≡ branch vs (bit b) q
 
--- the table of values: the entry 8 b + q is what the soft value q gives to the bit b; `table-of` says so
+-- the table of values; `table-of` says that it is one
 abbrev pub tableOf : Values → List ℤ
-tableOf vs = branch vs 0 0 ∷ branch vs 0 1 ∷ branch vs 0 2 ∷ branch vs 0 3 ∷ branch vs 0 4 ∷ branch vs 0 5 ∷ branch vs 0 6 ∷ branch vs 0 7
-    ∷ branch vs 1 0 ∷ branch vs 1 1 ∷ branch vs 1 2 ∷ branch vs 1 3 ∷ branch vs 1 4 ∷ branch vs 1 5 ∷ branch vs 1 6 ∷ branch vs 1 7 ∷ []
+tableOf vs = tabulated (λ k. branch vs (k / 8) (k % 8)) 0 16
 
 -- What a search is given: a soft column of n values, a mask of each code for each bit, and a table of values within 60 of zero.
 pub record Given (n : ℕ) (col ls rs : List ℕ) (table : List ℤ) : Type 0 where
@@ -37,8 +37,8 @@ pub record Given (n : ℕ) (col ls rs : List ℕ) (table : List ℤ) : Type 0 wh
   pub rights : length rs ≡ n
   pub entries : length table ≡ 16
   pub soft : (k : ℕ) → k < n → getD col k 0 < 8
-  pub left : (k : ℕ) → k < n → Odd (getD ls k 0)
-  pub right : (k : ℕ) → k < n → Odd (getD rs k 0)
+  pub left : (k : ℕ) → k < n → ZeroOrOdd (getD ls k 0)
+  pub right : (k : ℕ) → k < n → ZeroOrOdd (getD rs k 0)
   pub near : (k : ℕ) → k < 16 → natAbs (getD table k (pos 0)) ≤ 60
 
 -- the key of a path of at most n bits: its bits are as many as its length, and each gives at most 60 to the sum's size

@@ -71,7 +71,7 @@ fn parity_under(b: u64, m: u64) -> u64
     (u32::count_ones(y) % 2) as u64
 }
 
-// The bit that a soft value reads as.
+// The bit whose extension is made first: the one that the soft value reads as, which is mostly the better one. Either may go first, so the contract leaves it open.
 fn read_bit(q: u8) -> u64
     ensures { λ r. ⌜ r < 2 ⌝ }
 {

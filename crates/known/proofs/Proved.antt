@@ -36,19 +36,19 @@ unfolding before
 larger-sum-first x y l g vs soft p q e k = (rw (e, k, l), rw (e, k, l, g))
 
 -- the call on the all-zero column, from the search's outcome
-allowed-zeros : (limit i : ℕ) → 1 ≤ limit → limit ≤ 2000 → i < 4 → Allowed (replicate 30 0) i limit
+allowed-zeros : (limit i : ℕ) → 1 ≤ limit → limit ≤ 2000 → i < 4 → Allowed i (replicate 30 0) limit
 allowed-zeros limit i some most h = record { full = refl; level = h; some = some; most = most; range = λ k l. let none : getD {A = ℕ} (replicate 30 0) k 0 ≡ 0 = getD-replicate 30 k 0 0 l in omega arith }
 
 zeros-in-30-steps : (s : Search) → Holds (levels (zeroColumn s 30) 0 0 0 30)
 unfolding outcomeAnswer
 zeros-in-30-steps s i h =
-    let found = asked s (replicate 30 0) i 30 (allowed-zeros 30 i (lit≤ tt) (lit≤ tt) h) ∙ ap outcomeAnswer (zero-column-in-30-steps s i h) in
+    let found = asked s i (replicate 30 0) 30 (allowed-zeros 30 i (lit≤ tt) (lit≤ tt) h) ∙ ap outcomeAnswer (zero-column-in-30-steps s i h) in
     (ap answerNumber found, ap place found, ap word found, ap count found)
 
 zeros-spent-at-29 : (s : Search) → Holds (levels (zeroColumn s 29) 9 0 0 0)
 unfolding outcomeAnswer
 zeros-spent-at-29 s i h =
-    let refused = asked s (replicate 30 0) i 29 (allowed-zeros 29 i (lit≤ tt) (lit≤ tt) h) ∙ ap outcomeAnswer (zero-column-spent-at-29 s i h) in
+    let refused = asked s i (replicate 30 0) 29 (allowed-zeros 29 i (lit≤ tt) (lit≤ tt) h) ∙ ap outcomeAnswer (zero-column-spent-at-29 s i h) in
     (ap answerNumber refused, ap place refused, ap word refused, ap count refused)
 
 pub known-values : AllHold cases

@@ -11,7 +11,7 @@ use Rattle.column.specs.Level.{columnOf}
 use Rattle.packing.specs.Packing.{bytesOf}
 use Rattle.concatenated.specs.Soft.{takenOffBy}
 use Rattle.paths.specs.Paths.{Path}
-use Rattle.paths.specs.Search.{Outcome, answer, spent}
+use Rattle.paths.specs.Search.{SearchResult, answer, spent}
 use Rattle.trellis.specs.Values.{Values, values}
 use Rattle.trellis.specs.Order.{sum, before}
 use Rattle.trellis.specs.Demand.{Search, whole, supercode}
@@ -25,7 +25,7 @@ pub data Case : Type 0 where
   number : ℕ → ℕ → Case
   integer : ℤ → ℤ → Case
   truth : Bool → Bool → Case
-  outcome : Outcome ℕ → Outcome ℕ → Case
+  outcome : SearchResult ℕ → SearchResult ℕ → Case
   -- of all paths, those with the one sum stand before those with the other
   sums : ℤ → ℤ → Case
   -- a call's number, place, word and count, at each level
@@ -45,7 +45,7 @@ AllHold (c ∷ cs) = Holds c × AllHold cs
 
 -- the call on the all-zero column
 abbrev pub zeroColumn : Search → ℕ → ℕ → SearchAnswer
-zeroColumn s limit i = searchAnswer s (replicate 30 0) i limit
+zeroColumn s limit i = searchAnswer s i (replicate 30 0) limit
 
 -- three zeros that are the least sure, and a sure one
 abbrev pub unsure : List ℕ

@@ -7,7 +7,7 @@ ghost use Rattle.extension.specs.Steps.{tableOf};
 ghost use Rattle.stack.specs.Places.{Room};
 ghost use Rattle.concatenated.specs.Readers.{shortReader};
 ghost use Rattle.concatenated.specs.Arrays.{SoftColumns};
-ghost use Rattle.readings.specs.Steps.{searchOf};
+ghost use Rattle.search.specs.Outcomes.{searchOf};
 ghost use Rattle.levels.specs.Levels.{LevelDone, ColumnsDone};
 use coding::data;
 use softpage::rows;

@@ -1,21 +1,50 @@
--- A part of a buffer of soft values as a column to search. Assumes nothing.
+-- The columns of a buffer of soft values: a part as a column to search, and the answers so far. Assumes nothing.
 use mathlib.Core.List.{List}
-use mathlib.Core.Path.{_≡_, sym, subst}
-use Prim.Native.Nat.{ℕ, _+_, _-_, _≤_, _<_}
+use mathlib.Core.Path.{_≡_, refl, sym, ap, ap₂, _∙_, subst}
+use Prim.Native.Nat.{ℕ, suc, _+_, _-_, _*_, _/_, _%_, _≤_, _<_}
 use native.Mathlib.Omega.{arith}
+use lib.Bits.{bitXor}
 use lib.ListN.{length, take, drop, getD, length-take, length-drop}
 use lib.Seq.{getD-drop, getD-take}
-use Rattle.extension.specs.Steps.{Odd}
-use Rattle.search.specs.Outcomes.{Searchable30}
+use Rattle.paths.specs.Search.{SearchResult}
+use Rattle.search.specs.Outcomes.{codeOutcome}
+use Rattle.search.specs.declared.SearchOutcome.{SearchOutcome}
+use Rattle.measured.specs.Folds.{folded, foldedColumns}
 
-pub part-searchable : (soft left right : List ℕ) (a : ℕ) → a ≤ length soft → 30 ≤ length soft - a → ((k : ℕ) → k < length soft → getD soft k 0 < 8)
-    → length left ≡ 30 → ((k : ℕ) → k < 30 → Odd (getD left k 0)) → length right ≡ 30 → ((k : ℕ) → k < 30 → Odd (getD right k 0))
-    → Searchable30 (take (a + 30 - a) (drop a soft)) left right
-part-searchable soft left right a h fits values ll lo rl ro =
-    record { softs = simp (length-take, length-drop) (omega arith); lefts = ll; rights = rl; soft-range = range; left-odd = lo; right-odd = ro }
-  where
-    at : (k : ℕ) → k < 30 → getD (take (a + 30 - a) (drop a soft)) k 0 ≡ getD soft (a + k) 0
-    at k l = let within : k < a + 30 - a = omega arith in rw (getD-take, getD-drop)
+module _ (soft : List ℕ) (a : ℕ) (fits : a + 30 ≤ length soft) where
+  pub part-long : length (take (a + 30 - a) (drop a soft)) ≡ 30
+  part-long = simp (length-take, length-drop) (omega arith)
 
-    range : (k : ℕ) → k < 30 → getD (take (a + 30 - a) (drop a soft)) k 0 < 8
-    range k l = subst (λ (t : ℕ). t < 8) (sym (at k l)) (values (a + k) (omega arith))
+  pub part-range : ((k : ℕ) → k < length soft → getD soft k 0 ≤ 7) → (k : ℕ) → k < 30 → getD (take (a + 30 - a) (drop a soft)) k 0 ≤ 7
+  part-range values k l = subst (λ (t : ℕ). t ≤ 7) (sym at) (values (a + k) (omega arith))
+    where
+      at : getD (take (a + 30 - a) (drop a soft)) k 0 ≡ getD soft (a + k) 0
+      at = let within : k < a + 30 - a = omega arith in rw (getD-take, getD-drop)
+
+-- the columns before a, whole columns, are searched
+pub record Folded (search : List ℕ → SearchResult ℕ) (soft : List ℕ) (a fold : ℕ) : Type 0 where
+  pub fold-so : fold ≡ foldedColumns search soft (a / 30)
+
+module _ (search : List ℕ → SearchResult ℕ) (soft : List ℕ) where
+  pub none-folded : Folded search soft 0 0
+  unfolding foldedColumns
+  none-folded = record { fold-so = refl }
+
+  pub one-more-folded : (a fold : ℕ) (r : SearchOutcome) → a % 30 ≡ 0 → Folded search soft a fold → r ≡ codeOutcome (search (take (a + 30 - a) (drop a soft)))
+      → Folded search soft (a + 30) (bitXor fold (folded r))
+  unfolding foldedColumns
+  one-more-folded a fold r whole f e =
+      let column : take (a + 30 - a) (drop a soft) ≡ take 30 (drop (a / 30 * 30) soft) = ap₂ (λ (k j : ℕ). take k (drop j soft)) length-is start-is in
+      record { fold-so = ap₂ (λ (x : ℕ) (o : SearchOutcome). bitXor x (folded o)) (f .fold-so) (e ∙ ap (λ (c : List ℕ). codeOutcome (search c)) column) ∙ ap (foldedColumns search soft) next }
+    where
+      length-is : a + 30 - a ≡ 30
+      length-is = omega arith
+
+      start-is : a ≡ a / 30 * 30
+      start-is = omega arith
+
+      next : suc (a / 30) ≡ (a + 30) / 30
+      next = omega arith
+
+  pub all-folded : (a fold : ℕ) → a % 30 ≡ 0 → a ≤ length soft → length soft - a < 30 → Folded search soft a fold → fold ≡ foldedColumns search soft (length soft / 30)
+  all-folded a fold whole within last f = let same : a / 30 ≡ length soft / 30 = omega arith in f .fold-so ∙ ap (foldedColumns search soft) same

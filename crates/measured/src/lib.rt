@@ -1,23 +1,33 @@
 // What bench/run measures: the searches of many columns over one set of arrays, as page decoding makes them. No part of the store.
-ghost use Prim.Native.Nat.{ℕ, _<_, _≤_};
+ghost use Prim.Native.Nat.{ℕ, _/_, _<_, _≤_};
 ghost use mathlib.Core.Path.{_≡_};
 ghost use lib.ListN.{length, getD};
-ghost use Rattle.extension.specs.Steps.{Odd};
-use search::Outcome;
+ghost use Rattle.column.specs.Shape.{short};
+ghost use Rattle.trellis.specs.Values.{values};
+ghost use Rattle.trellis.specs.Demand.{Search, trellis};
+ghost use Rattle.trellis.specs.Trellis.{searched};
+ghost use Rattle.trellis.specs.Keys.{MasksFor};
+ghost use Rattle.measured.specs.Folds.{folded as foldedOf, foldedColumns, named, measuredAnswer};
+use search::SearchOutcome;
 
-fn folded(found: Outcome) -> u64 {
+// One search's answer as a number.
+fn folded(found: SearchOutcome) -> u64
+    ensures { λ r. ⌜ r ≡ foldedOf found ⌝ }
+{
     match found {
-        Outcome::Found { word, count } => (word << 11) ^ count,
-        Outcome::Spent => 0,
+        SearchOutcome::Found { word, count } => (word << 11) ^ count,
+        SearchOutcome::Spent => 0,
     }
 }
 
 // The answers of the columns of a buffer, 30 values each, as one number.
 fn search_all(soft: &[u8], left: &[u64; 30], right: &[u64; 30], limit: u64) -> u64
     requires { ⌜ limit ≤ 2000 ⌝ }
-    requires { ⌜ ((k : ℕ) → k < length (now soft) → getD (now soft) k 0 < 8) ⌝ }
-    requires { ⌜ (length (now left) ≡ 30) × ((k : ℕ) → k < 30 → Odd (getD (now left) k 0)) ⌝ }
-    requires { ⌜ (length (now right) ≡ 30) × ((k : ℕ) → k < 30 → Odd (getD (now right) k 0)) ⌝ }
+    requires { ⌜ ((k : ℕ) → k < length (now soft) → getD (now soft) k 0 ≤ 7) ⌝ }
+    requires { ⌜ (length (now left) ≡ 30) × (length (now right) ≡ 30) ⌝ }
+    requires { ⌜ ((s : Search) × (i : ℕ) × (i < 4) × MasksFor s short i (now left) (now right)) ⌝ }
+    ensures { λ r. ⌜ ((s : Search) (i : ℕ) → i < 4 → MasksFor s short i (now (left .entry)) (now (right .entry))
+        → r ≡ foldedColumns (λ c. searched (trellis s short values c i) limit) (now (soft .entry)) (length (now (soft .entry)) / 30)) ⌝ }
 {
     let mut sums = [0i16; 2002];
     let mut lens = [0u8; 2002];
@@ -45,7 +55,9 @@ fn search_all(soft: &[u8], left: &[u64; 30], right: &[u64; 30], limit: u64) -> u
 
 // The searches of a level with a limit: the whole search, or the supercode search where `supercode` is not 0; 0 where a question of the store would refuse.
 #[no_mangle]
-pub extern "C" fn measured_searches(soft: &[u8], level: u64, supercode: u64, limit: u64) -> u64 {
+pub extern "C" fn measured_searches(soft: &[u8], level: u64, supercode: u64, limit: u64) -> u64
+    ensures { λ r. ⌜ r ≡ measuredAnswer (named supercode) level (now (soft .entry)) limit ⌝ }
+{
     if 4 <= level {
         return 0;
     }
@@ -55,13 +67,8 @@ pub extern "C" fn measured_searches(soft: &[u8], level: u64, supercode: u64, lim
     if questions::first_above(soft, 7) < soft.len() {
         return 0;
     }
-    let i = level as usize;
-    if supercode == 0 {
-        let left = column::masks::level_masks(i);
-        let right = column::masks::no_masks();
-        return search_all(soft, &left, &right, limit);
-    }
-    let left = column::masks::left_masks(i);
-    let right = column::masks::right_masks(i);
+    let masks = search::short_page::masks_of(level as usize, supercode != 0);
+    let left = masks.left;
+    let right = masks.right;
     search_all(soft, &left, &right, limit)
 }

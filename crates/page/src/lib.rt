@@ -9,7 +9,7 @@ ghost use Rattle.concatenated.specs.SoftPage.{Soft, softColumns};
 ghost use Rattle.concatenated.specs.Decode.{decoded};
 ghost use Rattle.concatenated.specs.Readers.{shortReader};
 ghost use Rattle.concatenated.specs.Written.{writtenPage, writtenRows};
-ghost use Rattle.readings.specs.Steps.{searchOf};
+ghost use Rattle.search.specs.Outcomes.{searchOf};
 ghost use Rattle.concatenated.specs.OuterCode.{shortOuter, shortEncoder};
 ghost use Rattle.page.specs.Outcomes.{refusedPage, outcomeOf, dataAfter};
 use coding::data;

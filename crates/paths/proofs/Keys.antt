@@ -29,7 +29,7 @@ module _ {A : Type 0} (N : Nodes A) where
   stack-after-length (suc k) [] = omega arith
   stack-after-length (suc k) (x ∷ rest) = omega (arith, stack-after-length k (grow N x rest), grow-length N x rest)
 
-  no-keys-left : (accept : A → Bool) (fuel c : ℕ) → run-keys N accept fuel c [] ≡ spent c
+  pub no-keys-left : (accept : A → Bool) (fuel c : ℕ) → run-keys N accept fuel c [] ≡ spent c
   unfolding run-keys
   no-keys-left accept zero c = refl
   no-keys-left accept (suc fuel) c = refl

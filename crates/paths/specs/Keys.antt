@@ -8,11 +8,11 @@ use lib.ListN.{length}
 use Rattle.paths.specs.Paths.{Path}
 use Rattle.paths.specs.Stack.{Nodes, grow}
 use Rattle.paths.specs.Tree.{Tree, is-full, Exists}
-use Rattle.paths.specs.Search.{Outcome, answer, spent}
+use Rattle.paths.specs.Search.{SearchResult, answer, spent}
 
 module _ {A : Type 0} (nodes : Nodes A) where
   -- as `run`, from a stack of keys, when count-many were taken
-  unfoldable pub run-keys : (A → Bool) → ℕ → ℕ → List A → Outcome A
+  unfoldable pub run-keys : (A → Bool) → ℕ → ℕ → List A → SearchResult A
   run-keys accept zero count stack = spent count
   run-keys accept (suc fuel) count [] = spent count
   run-keys accept (suc fuel) count (x ∷ rest) =
@@ -33,6 +33,6 @@ pub record KeysOf (t : Tree) {A : Type 0} (nodes : Nodes A) (key : Path → A) :
   pub same-exists : (b : Bool) (p : Path) → (p ≡ []) ⊎ Exists t p → length p < t .size → nodes .exists (key (b ∷ p)) ≡ t .exists (b ∷ p)
 
 -- the outcome with the word's key
-unfoldable pub with-key : {A : Type 0} → (Path → A) → Outcome Path → Outcome A
+unfoldable pub with-key : {A : Type 0} → (Path → A) → SearchResult Path → SearchResult A
 with-key key (answer w c) = answer (key w) c
 with-key key (spent c) = spent c

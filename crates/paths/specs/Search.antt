@@ -25,9 +25,9 @@ abbrev pub first : State → Path
 first s = head (s .stack)
 
 -- a word and the number of paths taken, the word included; or only the number of paths taken
-pub data Outcome (A : Type 0) : Type 0 where
-  answer : A → ℕ → Outcome A
-  spent : ℕ → Outcome A
+pub data SearchResult (A : Type 0) : Type 0 where
+  answer : A → ℕ → SearchResult A
+  spent : ℕ → SearchResult A
 
 module _ (t : Tree) where
   -- nothing is taken, and the stack holds the existing one-bit paths
@@ -52,12 +52,12 @@ module _ (t : Tree) where
   after k = steps k start
 
   -- steps are made until a full path is taken that the caller accepts, or the fuel is used up
-  unfoldable pub run : (Path → Bool) → ℕ → State → Outcome Path
+  unfoldable pub run : (Path → Bool) → ℕ → State → SearchResult Path
   run accept zero s = spent (count s)
   run accept (suc fuel) s =
       let goes-on = run accept fuel (step s) in
       cond (is-full t (first s) && accept (first s)) (answer (first s) (count (step s))) goes-on
 
   -- the search for a first full path, with a limit on the paths taken
-  unfoldable pub limited-search : ℕ → Outcome Path
+  unfoldable pub limited-search : ℕ → SearchResult Path
   limited-search limit = run (λ w. true) limit start

@@ -8,17 +8,16 @@ use native.Mathlib.Omega.{arith}
 use lib.ListN.{length, length-map, getD, take, set}
 use lib.Seq.{take-suc, take-all}
 use Rattle.column.specs.Shape.{short}
-use Rattle.paths.specs.Search.{Outcome as OutcomeOf, answer}
+use Rattle.paths.specs.Search.{SearchResult, answer}
 use Rattle.paths.specs.Search
 use Rattle.trellis.specs.Values.{values}
 use Rattle.trellis.specs.Demand.{Search as Kind, trellis}
 use Rattle.trellis.specs.Trellis.{searched}
-use Rattle.search.specs.Outcomes.{codeOutcome, Searchable30, MasksFor}
-use Rattle.search.specs.declared.Outcome.{Outcome}
-use Rattle.search.specs.declared.Outcome.the-variants.{Found, Spent}
+use Rattle.search.specs.Outcomes.{codeOutcome}
+use Rattle.search.specs.declared.SearchOutcome.{SearchOutcome}
+use Rattle.search.specs.declared.SearchOutcome.the-variants.{Found, Spent}
 use Rattle.trellis.proofs.Demand.{one-codeword-is-ahead-of-all}
 use Rattle.trellis.proofs.Short.{searchable}
-use Rattle.search.proofs.ShortSearch.{masks-are-odd}
 use Rattle.concatenated.specs.Lists.{sum}
 use Rattle.concatenated.specs.SoftPage.{Soft}
 use Rattle.concatenated.specs.Decode.{Reading, spent, symbol, symbols, mark, marks, count, steps}
@@ -30,19 +29,19 @@ use Rattle.concatenated.proofs.Searches.{found-is-a-word, found-is-ahead-of-all
 use Rattle.concatenated.proofs.Filling.{Front, front-none, front-more, front-all}
 use Rattle.concatenated.proofs.Entries.{map-at}
 
-by-code : (limit : ℕ) (o : OutcomeOf ℕ) → asReading limit (codeOutcome o) ≡ readingOf limit o
+by-code : (limit : ℕ) (o : SearchResult ℕ) → asReading limit (codeOutcome o) ≡ readingOf limit o
 unfolding codeOutcome readingOf
 by-code limit (answer w n) = refl
 by-code limit (Search.spent n) = refl
 
 module _ (kind : Kind) (limit i : ℕ) (h : i < 4) (c : List ℕ) where
-  module _ (r : Outcome) (e : r ≡ codeOutcome (searched (trellis kind short values c i) limit)) where
+  module _ (r : SearchOutcome) (e : r ≡ codeOutcome (searched (trellis kind short values c i) limit)) where
     -- the code's search is the reading
     pub reads-it : asReading limit r ≡ shortReader kind limit i c
     unfolding readerOf
     reads-it = ap (asReading limit) e ∙ by-code limit (searched (trellis kind short values c i) limit)
 
-  pub word-in-range : (r : Outcome) → r ≡ codeOutcome (searched (trellis kind short values c i) limit) → WordInRange r
+  pub word-in-range : (r : SearchOutcome) → r ≡ codeOutcome (searched (trellis kind short values c i) limit) → WordInRange r
   word-in-range (Found w n) e = found-is-a-word short i (searchable i h) (λ k. values) limit c kind w n (sym (reads-it (Found w n) e)) .0
   word-in-range Spent e = tt
 
@@ -50,24 +49,16 @@ module _ (kind : Kind) (limit i : ℕ) (h : i < 4) (c : List ℕ) where
   unfolding readerOf readingOf count
   count-within-the-limit = go (searched (trellis kind short values c i) limit) refl
     where
-      go : (o : OutcomeOf ℕ) → searched (trellis kind short values c i) limit ≡ o → count (shortReader kind limit i c) ≤ limit
+      go : (o : SearchResult ℕ) → searched (trellis kind short values c i) limit ≡ o → count (shortReader kind limit i c) ≤ limit
       go (answer w n) e =
           let best = one-codeword-is-ahead-of-all short i (searchable i h) values c in
           let told = found-is-ahead-of-all short i (searchable i h) (λ k. values) limit c kind (best .0) (best .1) w n (ap (readingOf limit) e) in
-          subst⁻¹ (λ (o : OutcomeOf ℕ). count (readingOf limit o) ≤ limit) e (omega (arith, told .1, told .2))
-      go (Search.spent n) e = subst⁻¹ (λ (o : OutcomeOf ℕ). count (readingOf limit o) ≤ limit) e (le-refl limit)
+          subst⁻¹ (λ (o : SearchResult ℕ). count (readingOf limit o) ≤ limit) e (omega (arith, told .1, told .2))
+      go (Search.spent n) e = subst⁻¹ (λ (o : SearchResult ℕ). count (readingOf limit o) ≤ limit) e (le-refl limit)
 
--- what the search of a soft column asks of its masks
-pub column-searchable : (kind : Kind) (i : ℕ) → i < 4 → (c left right : List ℕ) → (length c ≡ 30) × Soft c → MasksFor kind i left right → length left ≡ 30 → length right ≡ 30 → Searchable30 c left right
-column-searchable kind i h c left right soft masks hl hr =
-    record {
-      softs = soft .0;
-      lefts = hl;
-      rights = hr;
-      soft-range = λ k l. let inside : k < length c = omega (arith, soft .0, l) in let q : getD c k 0 ≤ 7 = all-at (λ q. q ≤ 7) c k 0 (soft .1) inside in omega arith;
-      left-odd = masks-are-odd kind i h left right masks .0;
-      right-odd = masks-are-odd kind i h left right masks .1;
-    }
+-- a column of the page as the search takes it
+pub soft-column : (c : List ℕ) → (length c ≡ 30) × Soft c → (k : ℕ) → k < 30 → getD c k 0 ≤ 7
+soft-column c soft k l = let inside : k < length c = omega (arith, soft .0, l) in all-at (λ q. q ≤ 7) c k 0 (soft .1) inside
 
 sum-append : (xs : List ℕ) (n : ℕ) → sum (xs ++ (n ∷ [])) ≡ sum xs + n
 unfolding sum

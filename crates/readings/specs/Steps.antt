@@ -1,26 +1,19 @@
--- What the steps of page decoding leave in the code's arrays. Assumes nothing.
-use mathlib.Core.Bool.{Bool, true, false}
+-- For the code's contracts: a search as a reading, and what the reading of a level leaves in the code's arrays. Assumes nothing.
 use mathlib.Core.List.{List, map}
 use mathlib.Core.Path.{_≡_}
 use Prim.Native.Nat.{ℕ, _^_, _<_, _≤_}
 use Rattle.column.specs.Shape.{short}
-use Rattle.trellis.specs.Demand.{Search, whole, supercode}
-use Rattle.search.specs.declared.Outcome.{Outcome}
-use Rattle.search.specs.declared.Outcome.the-variants.{Found, Spent}
+use Rattle.search.specs.declared.SearchOutcome.{SearchOutcome}
+use Rattle.search.specs.declared.SearchOutcome.the-variants.{Found, Spent}
 use Rattle.concatenated.specs.Decode.{Reading, found, spent, symbols, marks, steps}
 use Rattle.concatenated.specs.Flags.{flag}
 
--- the search that a flag of the code names
-abbrev pub searchOf : Bool → Search
-searchOf true = supercode
-searchOf false = whole
-
 -- what the code's search gives, as a reading: 01: "a spent column counting the limit"
-abbrev pub asReading : ℕ → Outcome → Reading
+abbrev pub asReading : ℕ → SearchOutcome → Reading
 asReading limit (Found w c) = found w c
 asReading limit Spent = spent limit
 
-abbrev pub WordInRange : Outcome → Type 0
+abbrev pub WordInRange : SearchOutcome → Type 0
 WordInRange (Found w c) = w < 2 ^ 30
 WordInRange Spent = Unit {0}
 

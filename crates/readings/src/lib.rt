@@ -7,18 +7,13 @@ ghost use Rattle.column.specs.Shape.{short};
 ghost use Rattle.trellis.specs.Values.{values};
 ghost use Rattle.extension.specs.Steps.{tableOf};
 ghost use Rattle.stack.specs.Places.{Room};
-ghost use Rattle.search.specs.Outcomes.{MasksFor};
+ghost use Rattle.search.specs.Outcomes.{searchOf};
 ghost use Rattle.concatenated.specs.Decode.{symbol, mark, count};
 ghost use Rattle.concatenated.specs.Readers.{shortReader};
 ghost use Rattle.concatenated.specs.Flags.{flag};
 ghost use Rattle.concatenated.specs.Arrays.{SoftColumns};
-ghost use Rattle.readings.specs.Steps.{searchOf, asReading, WordInRange, RowRead};
-use search::Outcome;
-
-pub struct Masks {
-    left: [u64; 30],
-    right: [u64; 30],
-}
+ghost use Rattle.readings.specs.Steps.{asReading, WordInRange, RowRead};
+use search::SearchOutcome;
 
 pub struct Entry {
     symbol: u8,
@@ -26,35 +21,18 @@ pub struct Entry {
     count: u64,
 }
 
-// The masks of either search at a level.
-fn masks_of(level: usize, in_supercodes: bool) -> Masks
-    requires { ⌜ level < 4 ⌝ }
-    ensures { λ r. ⌜ MasksFor (searchOf in_supercodes) level (r .left) (r .right) × (length (r .left) ≡ 30) × (length (r .right) ≡ 30) ⌝ }
-{
-    if in_supercodes {
-        return Masks {
-            left: column::masks::left_masks(level),
-            right: column::masks::right_masks(level),
-        };
-    }
-    Masks {
-        left: column::masks::level_masks(level),
-        right: column::masks::no_masks(),
-    }
-}
-
 // What a column enters the row with: the symbol that its word re-images to, or 0 and a mark.
-fn enter(level: usize, limit: u64, found: Outcome) -> Entry
+fn enter(level: usize, limit: u64, found: SearchOutcome) -> Entry
     requires { ⌜ (level < 4) × WordInRange found ⌝ }
     ensures { λ r. ⌜ (r .symbol ≡ symbol short level (asReading limit found)) × (r .mark ≡ flag (mark (asReading limit found))) × (r .count ≡ count (asReading limit found)) ⌝ }
 {
     match found {
-        Outcome::Found { word, count } => Entry {
-            symbol: column::reimage(word, level) as u8,
+        SearchOutcome::Found { word, count } => Entry {
+            symbol: column::reimage(level, word) as u8,
             mark: 0,
             count: count,
         },
-        Outcome::Spent => Entry {
+        SearchOutcome::Spent => Entry {
             symbol: 0,
             mark: 1,
             count: limit,
@@ -79,7 +57,7 @@ pub fn read_row(
     ensures { λ r. ⌜ RowRead level (map (shortReader (searchOf in_supercodes) limit level) (now (work .entry))) (now (symbols .exit)) (now (marks .exit)) r
         × Room (now (sums .exit)) (now (lens .exit)) (now (bits .exit)) ⌝ }
 {
-    let masks = masks_of(level, in_supercodes);
+    let masks = search::short_page::masks_of(level, in_supercodes);
     let left = masks.left;
     let right = masks.right;
     let mut sum: u64 = 0;

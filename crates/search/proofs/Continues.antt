@@ -24,7 +24,8 @@ use Rattle.stack.specs.Places.{Upto}
 use Rattle.extension.specs.Steps.{TableOf, Given, tableExtension, tableNodes, Advanced}
 use Rattle.search.specs.Progress.{Standing, Going, Answered, Ended, Reached}
 use Rattle.search.specs.Outcomes.{outcomeOf}
-use Rattle.search.specs.declared.Outcome.the-variants.{Found, Spent}
+use Rattle.search.specs.declared.SearchOutcome.the-variants.{Found, Spent}
+use Rattle.paths.proofs.Keys.{no-keys-left}
 use Rattle.extension.proofs.Advances.{good-none}
 
 plus-one : (c : ℕ) → suc c ≡ c + 1
@@ -42,11 +43,6 @@ holds-none f = record { heap = record { order = λ j a b. absurd (omega arith) }
 module _ (n : ℕ) (table : List ℤ) (soft left right : List ℕ) (limit : ℕ) where
   abbrev N : Nodes Key
   N = tableNodes n table soft left right
-
-  run-none : (accept : Key → Bool) (fuel c : ℕ) → run-keys N accept fuel c [] ≡ spent c
-  unfolding run-keys
-  run-none accept zero c = refl
-  run-none accept (suc fuel) c = refl
 
   pub going-start : (f : ℕ → Key) (c m : ℕ) (p : Key) (xs : List Key) → Holds Upto f m xs → Going N n limit f c p xs m c p
   going-start f c m p xs h =
@@ -71,7 +67,7 @@ module _ (n : ℕ) (table : List ℤ) (soft left right : List ℕ) (limit : ℕ)
     ended z = go (d .lists (g .rest) (g .holds))
       where
         go : ((y .len ≡ 0) × (grow N p (g .rest) ≡ [])) ⊎ ((0 < y .len) × (rest : List Key) × (grow N p (g .rest) ≡ y ∷ rest) × Holds Upto f′ m′ rest) → Ended N n limit f′ c₀ p₀ xs m′ c y
-        go (inl e) = record { later = g .later; within = h; none = z; same = λ accept fuel. g .same accept fuel ∙ ap (run-keys N accept fuel c) (e .1) ∙ run-none accept fuel c }
+        go (inl e) = record { later = g .later; within = h; none = z; same = λ accept fuel. g .same accept fuel ∙ ap (run-keys N accept fuel c) (e .1) ∙ no-keys-left N accept fuel c }
         go (inr e) = absurd (omega (arith, e .0))
 
     abbrev Took : Type 0

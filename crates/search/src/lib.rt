@@ -17,7 +17,7 @@ ghost use Rattle.search.specs.Progress.{Standing, Reached};
 ghost use Rattle.search.specs.Outcomes.{outcomeOf};
 
 // The outcome of a search: the word and the number of paths taken, the word included; or the limit was spent.
-pub enum Outcome {
+pub enum SearchOutcome {
     Found { word: u64, count: u64 },
     Spent,
 }
@@ -119,7 +119,7 @@ pub fn search(
     right: &[u64],
     values: &[i16; 16],
     limit: u64,
-) -> Outcome
+) -> SearchOutcome
     requires { ⌜ limit ≤ 2000 ⌝ }
     requires { ⌜ Given n (now col) (now left) (now right) (now values) ⌝ }
     requires { ⌜ Room (now sums) (now lens) (now bits) ⌝ }
@@ -146,10 +146,10 @@ pub fn search(
         limit,
     );
     if end.len == n {
-        return Outcome::Found {
+        return SearchOutcome::Found {
             word: end.bits,
             count: end.count,
         };
     }
-    Outcome::Spent
+    SearchOutcome::Spent
 }

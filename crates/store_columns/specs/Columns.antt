@@ -1,4 +1,4 @@
--- The answers of the column calls. Assumes nothing.
+-- 01: the answers of the column calls. Assumes nothing.
 use mathlib.Core.List.{List}
 use Prim.Native.Nat.{ℕ, _^_}
 use lib.Dec.{eqb, ltb, leb}
@@ -25,7 +25,7 @@ levelWordAnswer level symbol =
 
 -- 3: the level; 5: the column; 6: a word of its level
 abbrev pub reimageAnswer : ℕ → ℕ → Answer
-reimageAnswer column level =
+reimageAnswer level column =
     ask (ltb level 4) (Refused 3 0)
     (ask (ltb column (2 ^ 30)) (Refused 5 0)
     (ask (isWord short level column) (Refused 6 0)

@@ -43,8 +43,8 @@ pub fn level_word(level: u64, symbol: u64) -> Answer
 }
 
 // The symbol that a word of a level carries there. Refused by 3, 5 and 6.
-pub fn reimage(column: u64, level: u64) -> Answer
-    ensures { λ r. ⌜ r ≡ reimageAnswer column level ⌝ }
+pub fn reimage(level: u64, column: u64) -> Answer
+    ensures { λ r. ⌜ r ≡ reimageAnswer level column ⌝ }
 {
     if 4 <= level {
         return Answer::Refused(3, 0);
@@ -53,8 +53,8 @@ pub fn reimage(column: u64, level: u64) -> Answer
         return Answer::Refused(5, 0);
     }
     let i = level as usize;
-    if !column::is_word(column, i) {
+    if !column::is_word(i, column) {
         return Answer::Refused(6, 0);
     }
-    Answer::Value(column::reimage(column, i))
+    Answer::Value(column::reimage(i, column))
 }

@@ -8,7 +8,7 @@ ghost use Rattle.concatenated.specs.SoftPage.{columnPart};
 ghost use Rattle.concatenated.specs.Places.{placedAt};
 ghost use Rattle.concatenated.specs.Written.{writtenPage};
 ghost use Rattle.concatenated.specs.OuterCode.{shortEncoder};
-ghost use Rattle.readings.specs.Steps.{searchOf};
+ghost use Rattle.search.specs.Outcomes.{searchOf};
 ghost use Rattle.questions.specs.Outcome.{Filled};
 ghost use Rattle.store_pages.specs.Pages.{encodePageAnswer, PageDecoded};
 use page::PageOutcome;

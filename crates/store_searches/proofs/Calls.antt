@@ -21,9 +21,9 @@ use Rattle.questions.proofs.AllInRange.{no-value-above}
 use Rattle.store_searches.specs.Searches.{number, place, word, count, Is, Allowed, outcomeAnswer, searchAnswer}
 use Rattle.store_searches.specs.declared.SearchAnswer.the-variants.{Found, Refused}
 
-module _ (s : Search) (soft : List ℕ) (level limit : ℕ) (allowed : Allowed soft level limit) where
+module _ (s : Search) (level : ℕ) (soft : List ℕ) (limit : ℕ) (allowed : Allowed level soft limit) where
   -- only question 9 is left
-  pub asked : searchAnswer s soft level limit ≡ outcomeAnswer (searched (trellis s short values soft level) limit)
+  pub asked : searchAnswer s level soft limit ≡ outcomeAnswer (searched (trellis s short values soft level) limit)
   asked =
       rw (eq-eqb (length soft) 30 (allowed .full), lt-ltb level 4 (allowed .level), le-leb 1 limit (allowed .some), le-leb limit 2000 (allowed .most), no-value-above soft 30 7 (allowed .full) (allowed .range))
 
@@ -40,24 +40,24 @@ module _ (s : Search) (soft : List ℕ) (level limit : ℕ) (allowed : Allowed s
     many = rank-counts short level (searchable level (allowed .level)) values soft w s ps listed
 
     pub call-answers-within-the-limit : length ps ≤ limit
-        → (searchAnswer s soft level limit ≡ Found (columnOf w) (length ps)) × Is (searchAnswer s soft level limit) 0 0 (columnOf w) (length ps)
+        → (searchAnswer s level soft limit ≡ Found (columnOf w) (length ps)) × Is (searchAnswer s level soft limit) 0 0 (columnOf w) (length ps)
     unfolding outcomeAnswer
     call-answers-within-the-limit l =
-        let found : searchAnswer s soft level limit ≡ Found (columnOf w) (length ps) =
+        let found : searchAnswer s level soft limit ≡ Found (columnOf w) (length ps) =
         asked ∙ ap outcomeAnswer (answers-within-the-limit level (allowed .level) soft s w best limit (omega (arith, many))) ∙ ap (Found (columnOf w)) (sym many) in
         (found, (ap number found, ap place found, ap word found, ap count found))
 
-    pub call-refuses-above-the-limit : limit < length ps → (searchAnswer s soft level limit ≡ Refused 9 0) × Is (searchAnswer s soft level limit) 9 0 0 0
+    pub call-refuses-above-the-limit : limit < length ps → (searchAnswer s level soft limit ≡ Refused 9 0) × Is (searchAnswer s level soft limit) 9 0 0 0
     unfolding outcomeAnswer
     call-refuses-above-the-limit l =
-        let refused : searchAnswer s soft level limit ≡ Refused 9 0 =
+        let refused : searchAnswer s level soft limit ≡ Refused 9 0 =
         asked ∙ ap outcomeAnswer (is-spent-above-the-limit level (allowed .level) soft s w best limit (omega (arith, many))) in
         (refused, (ap number refused, ap place refused, ap word refused, ap count refused))
 
     -- demand 3: "the search is spent exactly when that number would be above its limit"
-    pub call-is-9-exactly-above-the-limit : (number (searchAnswer s soft level limit) ≡ 9) ↔ (limit < length ps)
+    pub call-is-9-exactly-above-the-limit : (number (searchAnswer s level soft limit) ≡ 9) ↔ (limit < length ps)
     call-is-9-exactly-above-the-limit = (λ nine. go nine (decLe (length ps) limit), λ l. call-refuses-above-the-limit l .1 .0)
       where
-        go : number (searchAnswer s soft level limit) ≡ 9 → Dec (length ps ≤ limit) → limit < length ps
-        go nine (yes l) = let zero : number (searchAnswer s soft level limit) ≡ 0 = call-answers-within-the-limit l .1 .0 in absurd (omega (arith, nine, zero))
+        go : number (searchAnswer s level soft limit) ≡ 9 → Dec (length ps ≤ limit) → limit < length ps
+        go nine (yes l) = let zero : number (searchAnswer s level soft limit) ≡ 0 = call-answers-within-the-limit l .1 .0 in absurd (omega (arith, nine, zero))
         go nine (no l) = omega arith

@@ -5,7 +5,7 @@ use Prim.Native.Nat.{ℕ, _≤_, _<_}
 use lib.Dec.{eqb, ltb, leb}
 use lib.ListN.{length, getD}
 use Rattle.column.specs.Shape.{short}
-use Rattle.paths.specs.Search.{Outcome, answer, spent}
+use Rattle.paths.specs.Search.{SearchResult, answer, spent}
 use Rattle.trellis.specs.Values.{values}
 use Rattle.trellis.specs.Demand.{Search, trellis}
 use Rattle.trellis.specs.Trellis.{searched}
@@ -35,7 +35,7 @@ abbrev pub Is : SearchAnswer → ℕ → ℕ → ℕ → ℕ → Type 0
 Is a n p w c = (number a ≡ n) × (place a ≡ p) × (word a ≡ w) × (count a ≡ c)
 
 -- demand 3: an "allowed soft column, level and limit": questions 1, 3, 4 and 5 are answered yes
-pub record Allowed (soft : List ℕ) (i limit : ℕ) : Type 0 where
+pub record Allowed (i : ℕ) (soft : List ℕ) (limit : ℕ) : Type 0 where
   pub full : length soft ≡ 30
   pub level : i < 4
   pub some : 1 ≤ limit
@@ -43,13 +43,13 @@ pub record Allowed (soft : List ℕ) (i limit : ℕ) : Type 0 where
   pub range : (k : ℕ) → k < 30 → getD soft k 0 ≤ 7
 
 -- 9: "Did a column search end within the limit?"
-unfoldable pub outcomeAnswer : Outcome ℕ → SearchAnswer
+unfoldable pub outcomeAnswer : SearchResult ℕ → SearchAnswer
 outcomeAnswer (answer w c) = Found w c
 outcomeAnswer (spent c) = Refused 9 0
 
 -- 1: 30 values; 3: the level; 4: the limit 1..2,000; 5: each value 0..7; 9
-abbrev pub searchAnswer : Search → List ℕ → ℕ → ℕ → SearchAnswer
-searchAnswer s soft level limit =
+abbrev pub searchAnswer : Search → ℕ → List ℕ → ℕ → SearchAnswer
+searchAnswer s level soft limit =
     ask (eqb (length soft) 30) (Refused 1 0)
     (ask (ltb level 4) (Refused 3 0)
     (ask (leb 1 limit) (Refused 4 0)

@@ -5,10 +5,10 @@ ghost use Rattle.column.specs.Shape.{short};
 ghost use Rattle.trellis.specs.Values.{values};
 ghost use Rattle.trellis.specs.Demand.{Search, whole, supercode, trellis};
 ghost use Rattle.trellis.specs.Trellis.{searched};
-ghost use Rattle.search.specs.Outcomes.{Searchable30, MasksFor};
-ghost use Rattle.readings.specs.Steps.{searchOf};
+ghost use Rattle.trellis.specs.Keys.{MasksFor};
+ghost use Rattle.search.specs.Outcomes.{Searchable30, searchOf};
 ghost use Rattle.store_searches.specs.Searches.{searchAnswer, outcomeAnswer};
-use search::Outcome;
+use search::SearchOutcome;
 
 // What a column search answers: the word and the count. `number`, `place`, `word` and `count` of specs/Searches.antt are 01's words for its cases.
 pub enum SearchAnswer {
@@ -20,7 +20,7 @@ pub enum SearchAnswer {
 fn search_by_masks(soft: &[u8], left: &[u64; 30], right: &[u64; 30], limit: u64) -> SearchAnswer
     requires { ⌜ limit ≤ 2000 ⌝ }
     requires { ⌜ Searchable30 (now soft) (now left) (now right) ⌝ }
-    ensures { λ r. ⌜ ((s : Search) (i : ℕ) → i < 4 → MasksFor s i (now (left .entry)) (now (right .entry))
+    ensures { λ r. ⌜ ((s : Search) (i : ℕ) → i < 4 → MasksFor s short i (now (left .entry)) (now (right .entry))
         → r ≡ outcomeAnswer (searched (trellis s short values (now (soft .entry)) i) limit)) ⌝ }
 {
     let mut sums = [0i16; 2002];
@@ -38,14 +38,14 @@ fn search_by_masks(soft: &[u8], left: &[u64; 30], right: &[u64; 30], limit: u64)
         limit,
     );
     match found {
-        Outcome::Found { word, count } => SearchAnswer::Found(word, count),
-        Outcome::Spent => SearchAnswer::Refused(9, 0),
+        SearchOutcome::Found { word, count } => SearchAnswer::Found(word, count),
+        SearchOutcome::Spent => SearchAnswer::Refused(9, 0),
     }
 }
 
-// Either search: the questions in their order, then the search by the masks of its trellis.
-fn search_either(soft: &[u8], level: u64, limit: u64, in_supercodes: bool) -> SearchAnswer
-    ensures { λ r. ⌜ r ≡ searchAnswer (searchOf in_supercodes) (now (soft .entry)) level limit ⌝ }
+// Either search: the questions in their order, then the search by its masks.
+fn search_either(level: u64, soft: &[u8], limit: u64, in_supercodes: bool) -> SearchAnswer
+    ensures { λ r. ⌜ r ≡ searchAnswer (searchOf in_supercodes) level (now (soft .entry)) limit ⌝ }
 {
     if soft.len() != 30 {
         return SearchAnswer::Refused(1, 0);
@@ -63,27 +63,22 @@ fn search_either(soft: &[u8], level: u64, limit: u64, in_supercodes: bool) -> Se
     if bad < 30 {
         return SearchAnswer::Refused(5, bad as u64);
     }
-    let i = level as usize;
-    if in_supercodes {
-        let left = column::masks::left_masks(i);
-        let right = column::masks::right_masks(i);
-        return search_by_masks(soft, &left, &right, limit);
-    }
-    let left = column::masks::level_masks(i);
-    let right = column::masks::no_masks();
+    let masks = search::short_page::masks_of(level as usize, in_supercodes);
+    let left = masks.left;
+    let right = masks.right;
     search_by_masks(soft, &left, &right, limit)
 }
 
 // The whole search of a column: the word and the count. Refused by 1, 3, 4, 5 and 9.
-pub fn search_whole(soft: &[u8], level: u64, limit: u64) -> SearchAnswer
-    ensures { λ r. ⌜ r ≡ searchAnswer whole (now (soft .entry)) level limit ⌝ }
+pub fn search_whole(level: u64, soft: &[u8], limit: u64) -> SearchAnswer
+    ensures { λ r. ⌜ r ≡ searchAnswer whole level (now (soft .entry)) limit ⌝ }
 {
-    search_either(soft, level, limit, false)
+    search_either(level, soft, limit, false)
 }
 
 // The supercode search of a column: the word and the count. Refused by 1, 3, 4, 5 and 9.
-pub fn search_supercode(soft: &[u8], level: u64, limit: u64) -> SearchAnswer
-    ensures { λ r. ⌜ r ≡ searchAnswer supercode (now (soft .entry)) level limit ⌝ }
+pub fn search_supercode(level: u64, soft: &[u8], limit: u64) -> SearchAnswer
+    ensures { λ r. ⌜ r ≡ searchAnswer supercode level (now (soft .entry)) limit ⌝ }
 {
-    search_either(soft, level, limit, true)
+    search_either(level, soft, limit, true)
 }

@@ -19,7 +19,7 @@ use Rattle.column.proofs.Checks.{extension-exists}
 use Rattle.column.proofs.Supercodes.{Split}
 use Rattle.paths.specs.Paths.{Path}
 use Rattle.paths.specs.Tree.{Tree, Sound, is-full, Exists as InTree}
-use Rattle.paths.specs.Search.{Outcome, answer, spent, limited-search}
+use Rattle.paths.specs.Search.{SearchResult, answer, spent, limited-search}
 use Rattle.paths.specs.Keys.{KeysOf, with-key}
 use Rattle.paths.proofs.Booleans.{and-both}
 use Rattle.paths.proofs.Keys.{search-on-keys-is-search-on-paths}
@@ -121,7 +121,7 @@ module _ (vs : Values) (soft left right : List ℕ) where
 -- ---- the search
 
 -- the outcome with the word's bits
-abbrev pub by-bits : Outcome Key → Outcome ℕ
+abbrev pub by-bits : SearchResult Key → SearchResult ℕ
 by-bits (answer k c) = answer (k .bits) c
 by-bits (spent c) = spent c
 
@@ -135,7 +135,7 @@ module _ (vs : Values) (soft left right : List ℕ) (t : Tree) (sound : Sound t)
   unfolding with-key keyOf
   key-search-is-search limit = ap by-bits (key-search-has-the-keys limit) ∙ bits-of (limited-search t limit)
     where
-      bits-of : (o : Outcome Path) → by-bits (with-key (keyOf vs soft) o) ≡ with-key number o
+      bits-of : (o : SearchResult Path) → by-bits (with-key (keyOf vs soft) o) ≡ with-key number o
       bits-of (answer w c) = refl
       bits-of (spent c) = refl
 

@@ -8,7 +8,8 @@ use lib.ListN.{replicate, getD-replicate}
 use Rattle.poly.specs.Polynomial.{add, scale, productIn, product, reduced, remainderIn, remainder}
 use Rattle.column.specs.Shape.{generator, degree, levelCode, short}
 use Rattle.column.specs.Mask.{parity}
-use Rattle.column.proofs.MaskTable.{residues, maskBy, masksFrom, maskTable, masks-of}
+use Rattle.column.specs.Tabulated.{tabulated}
+use Rattle.column.proofs.MaskTable.{residues, maskBy, maskTable, masks-of}
 use Rattle.paths.specs.Stack.{insert, push, extend, grow}
 use Rattle.paths.specs.Search.{answer, spent}
 use Rattle.paths.specs.Keys.{run-keys}
@@ -37,7 +38,7 @@ masks-for supercode i = (masks-of 30 (short .supercodes i .left), masks-of 30 (s
 
 zero-column-keys : (s : Search) (i : ℕ) → i < 4
     → (by-bits (keySearch 30 values zeroColumn (left s i) (right s i) 30) ≡ answer 0 30) × (by-bits (keySearch 30 values zeroColumn (left s i) (right s i) 29) ≡ spent 29)
-unfolding keySearch run-keys extend push insert grow keyExtension keyBefore keyPasses parity ones branch reading doubt maskTable masksFrom maskBy residues generator degree product productIn remainder remainderIn reduced scale add
+unfolding keySearch run-keys extend push insert grow keyExtension keyBefore keyPasses parity ones branch reading doubt maskTable tabulated maskBy residues generator degree product productIn remainder remainderIn reduced scale add
 zero-column-keys whole zero h = (refl, refl)
 zero-column-keys whole (suc zero) h = (refl, refl)
 zero-column-keys whole (suc (suc zero)) h = (refl, refl)

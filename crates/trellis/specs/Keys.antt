@@ -11,7 +11,7 @@ use Rattle.column.specs.Shape.{Shape, levelCode}
 use Rattle.column.specs.Mask.{parity, MasksOf}
 use Rattle.paths.specs.Paths.{Path}
 use Rattle.paths.specs.Stack.{Nodes, extend}
-use Rattle.paths.specs.Search.{Outcome}
+use Rattle.paths.specs.Search.{SearchResult}
 use Rattle.paths.specs.Keys.{run-keys}
 use Rattle.trellis.specs.Values.{Values, branch}
 use Rattle.trellis.specs.Order.{bit, number, sum, firstBy}
@@ -59,6 +59,6 @@ keyNodes n vs soft left right = record {
 }
 
 -- the search on keys
-unfoldable pub keySearch : ℕ → Values → List ℕ → List ℕ → List ℕ → ℕ → Outcome Key
+unfoldable pub keySearch : ℕ → Values → List ℕ → List ℕ → List ℕ → ℕ → SearchResult Key
 keySearch n vs soft left right limit =
     run-keys (keyNodes n vs soft left right) (λ k. true) limit 0 (extend (keyNodes n vs soft left right) (key (pos 0) 0 0) [])

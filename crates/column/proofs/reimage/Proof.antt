@@ -12,10 +12,10 @@ use Rattle.column.proofs.reimage.Statement.{statement}
 use Rattle.column.proofs.reimage.Tie as tie
 
 abbrev Inv-loop : tie.InvT-loop
-Inv-loop column level w₀ i₀ w i = (level ≤ i) × (i < 4) × (w ≡ takenOff short (4 - suc i) column)
+Inv-loop level column w₀ i₀ w i = (level ≤ i) × (i < 4) × (w ≡ takenOff short (4 - suc i) column)
 
 abbrev μ-loop : tie.MeasureT-loop
-μ-loop column level w₀ i₀ w i = i
+μ-loop level column w₀ i₀ w i = i
 
 loop-holds : tie.Need-loop-holds Inv-loop μ-loop
 loop-holds c = (search needs, lit< tt, nothing-taken-off (c .args .column))

@@ -2,7 +2,7 @@
 use Prim.Native.Nat.{_-_}
 use Rattle.stack.specs.Places.{Room}
 use Rattle.concatenated.specs.Readers.{shortReader}
-use Rattle.readings.specs.Steps.{searchOf}
+use Rattle.search.specs.Outcomes.{searchOf}
 use Rattle.levels.proofs.LevelRuns.{not-so, so, Decoding, decoding-none, decoding-more, decoding-refused, decoding-answered}
 use borrow.Author.Needs.{needs}
 use Rattle.levels.proofs.decode_columns.Statement.{statement}

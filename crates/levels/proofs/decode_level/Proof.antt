@@ -4,7 +4,7 @@ use Prim.Native.Nat.{_-_}
 use mathlib.Core.List.{map}
 use lib.ListN.{length, length-map}
 use Rattle.concatenated.specs.Readers.{shortReader}
-use Rattle.readings.specs.Steps.{searchOf}
+use Rattle.search.specs.Outcomes.{searchOf}
 use Rattle.levels.specs.Levels.{LevelDone}
 use Rattle.levels.proofs.LevelSteps.{read-long, read-symbols, soft-off, settled-row-is-a-word, level-refused, level-settled}
 use borrow.Author.Needs.{needs}

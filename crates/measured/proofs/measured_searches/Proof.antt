@@ -1,69 +1,56 @@
--- `measured::measured_searches` meets what its callees ask: the masks are 0 or odd, the values in range. Assumes nothing.
+-- `measured::measured_searches` meets its contract: each return rewrites with the tests that led there. Assumes nothing.
 use mathlib.Core.Path.{subst}
-use Prim.Native.Nat.{ℕ, _≤_}
+use Prim.Native.Nat.{ℕ, _≤_, _<_}
 use lib.ListN.{length}
-use Rattle.trellis.specs.Demand.{whole, supercode}
-use Rattle.search.proofs.ShortSearch.{masks-are-odd}
+use borrow.Author.Tests.{le-ltb, lt-ltb, le-leb, lt-leb}
 use Rattle.questions.specs.Questions.{firstAbove}
 use Rattle.questions.proofs.FirstAbove.{below-first}
+use Rattle.measured.specs.Folds.{named}
 use native.Mathlib.Omega.{arith}
 use borrow.Author.Needs.{needs}
 use Rattle.measured.proofs.measured_searches.Statement.{statement}
 use Rattle.measured.proofs.measured_searches.Tie as tie
 
 returns : tie.Need-returns
-returns c = search needs
+returns c = simp (le-ltb _ _ (c .if1 .taken))
 
 returns-2 : tie.Need-returns-2
-returns-2 c = search needs
+returns-2 c = simp (lt-ltb _ _ (c .before .if1 .left), lt-leb _ _ (c .if2 .taken))
 
 first-above-requires : tie.Need-first-above-requires
 first-above-requires c κs = search needs
 
 returns-3 : tie.Need-returns-3
-returns-3 c = search needs
+returns-3 c =
+    let told = c .before in
+    let soft = told .before .before .before .before .args .soft .now in
+    let bad : firstAbove soft 7 < length soft = subst (λ (t : ℕ). t < length soft) (told .first-above .ensures) (c .if3 .taken) in
+    simp (lt-ltb _ _ (told .before .before .if1 .left), le-leb _ _ (told .before .if2 .left), lt-leb _ _ bad)
 
-level-masks-requires : tie.Need-level-masks-requires
-level-masks-requires c κs = search needs
-
-no-masks-requires : tie.Need-no-masks-requires
-no-masks-requires c κs = search needs
+masks-of-requires : tie.Need-masks-of-requires
+masks-of-requires c κs = search needs
 
 search-all-requires : tie.Need-search-all-requires
 search-all-requires c κs =
-    let rights = c .before .before in
-    let lefts = rights .before in
-    let good = lefts .before .before in
+    let made = c .before .before .before .before in
+    let good = made .before in
     let told = good .before in
     let start = told .before .before .before .before in
     let soft = start .args .soft .now in
     let values : length soft ≤ firstAbove soft 7 = subst (λ (t : ℕ). length soft ≤ t) (told .first-above .ensures) (good .if3 .left) in
-    let odd = masks-are-odd whole (start .args .level) (search needs) (lefts .level-masks .result) (rights .no-masks .result) (lefts .level-masks .ensures, rights .no-masks .ensures) in
-    (search needs, (λ k h. let in-range = below-first soft 7 k (omega arith) in omega arith, ((search needs, odd .0), (search needs, odd .1))))
+    let masks = made .masks-of .ensures in
+    (told .before .if2 .left, (λ k h. below-first soft 7 k (omega arith), ((masks .1, masks .2), (named (start .args .supercode), start .args .level, told .before .before .if1 .left, masks .0))))
 
 returns-4 : tie.Need-returns-4
-returns-4 c = search needs
-
-left-masks-requires : tie.Need-left-masks-requires
-left-masks-requires c κs = search needs
-
-right-masks-requires : tie.Need-right-masks-requires
-right-masks-requires c κs = search needs
-
-search-all-requires-2 : tie.Need-search-all-requires-2
-search-all-requires-2 c κs =
-    let rights = c .before .before in
-    let lefts = rights .before in
-    let good = lefts .before .before in
+returns-4 c =
+    let made = c .before .before .before .before .before in
+    let good = made .before in
     let told = good .before in
     let start = told .before .before .before .before in
     let soft = start .args .soft .now in
     let values : length soft ≤ firstAbove soft 7 = subst (λ (t : ℕ). length soft ≤ t) (told .first-above .ensures) (good .if3 .left) in
-    let odd = masks-are-odd supercode (start .args .level) (search needs) (lefts .left-masks .result) (rights .right-masks .result) (lefts .left-masks .ensures, rights .right-masks .ensures) in
-    (search needs, (λ k h. let in-range = below-first soft 7 k (omega arith) in omega arith, ((search needs, odd .0), (search needs, odd .1))))
-
-returns-5 : tie.Need-returns-5
-returns-5 c = search needs
+    let found = c .search-all .ensures (named (start .args .supercode)) (start .args .level) (told .before .before .if1 .left) (made .masks-of .ensures .0) in
+    simp (lt-ltb _ _ (told .before .before .if1 .left), le-leb _ _ (told .before .if2 .left), le-leb _ _ values, found)
 
 pub measured-searches-spec : {M : Type 1} → statement M
 measured-searches-spec =
@@ -73,11 +60,6 @@ measured-searches-spec =
     returns-2
     first-above-requires
     returns-3
-    level-masks-requires
-    no-masks-requires
+    masks-of-requires
     search-all-requires
-    returns-4
-    left-masks-requires
-    right-masks-requires
-    search-all-requires-2
-    returns-5)
+    returns-4)

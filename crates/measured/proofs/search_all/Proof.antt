@@ -1,15 +1,26 @@
--- `measured::search_all` ends and meets what the search asks. The loop's invariant: a lies within the buffer, and the arrays keep their places. Assumes nothing.
-use Rattle.measured.proofs.Parts.{part-searchable}
-use Prim.Native.Nat.{_≤_, _-_}
-use lib.ListN.{length}
+-- `measured::search_all` meets its contract. The loop's invariant: the columns before a are searched, and the arrays keep their places. Assumes nothing.
+use mathlib.Core.List.{List}
+use mathlib.Core.Path.{_≡_, subst⁻¹}
+use Prim.Native.Nat.{ℕ, _+_, _-_, _%_, _≤_, _<_}
+use lib.Bits.{bitXor}
+use lib.ListN.{length, take, drop}
+use Rattle.column.specs.Shape.{short}
+use Rattle.paths.specs.Search.{SearchResult}
+use Rattle.trellis.specs.Values.{values}
+use Rattle.trellis.specs.Demand.{Search, trellis}
+use Rattle.trellis.specs.Trellis.{searched}
+use Rattle.trellis.specs.Keys.{MasksFor}
 use Rattle.stack.specs.Places.{Room}
+use Rattle.search.proofs.ShortSearch.{column-searchable}
+use Rattle.measured.proofs.Parts.{part-long, part-range, Folded, none-folded, one-more-folded, all-folded}
 use native.Mathlib.Omega.{arith}
 use borrow.Author.Needs.{needs}
 use Rattle.measured.proofs.search_all.Statement.{statement}
 use Rattle.measured.proofs.search_all.Tie as tie
 
 abbrev Inv-loop : tie.InvT-loop
-Inv-loop soft left right limit sums₀ lens₀ bits₀ table fold₀ a₀ sums lens bits fold a = (a ≤ length soft) × Room sums lens bits
+Inv-loop soft left right limit sums₀ lens₀ bits₀ table fold₀ a₀ sums lens bits fold a = (a ≤ length soft) × (a % 30 ≡ 0) × Room sums lens bits
+    × ((s : Search) (i : ℕ) → i < 4 → MasksFor s short i left right → Folded (λ c. searched (trellis s short values c i) limit) soft a fold)
 
 abbrev μ-loop : tie.MeasureT-loop
 μ-loop soft left right limit sums₀ lens₀ bits₀ table fold₀ a₀ sums lens bits fold a = length soft - a
@@ -18,7 +29,7 @@ values-requires : tie.Need-values-requires Inv-loop μ-loop
 values-requires c κs = search needs
 
 loop-holds : tie.Need-loop-holds Inv-loop μ-loop
-loop-holds c = search needs
+loop-holds c = (search needs, search needs, search needs, λ s i h masks. none-folded _ _)
 
 sub-loop : tie.Need-sub-loop Inv-loop μ-loop
 sub-loop c = search needs
@@ -39,11 +50,15 @@ search-column-requires : tie.Need-search-column-requires Inv-loop μ-loop
 search-column-requires c κs =
     let at-loop = c .before .before .before .before .before .before .before .before in
     let start = at-loop .before .before .before in
-    let fits : 30 ≤ length (start .args .soft .now) - at-loop .loop .a = omega arith in (
+    let soft = start .args .soft .now in
+    let a = at-loop .loop .a in
+    let fits : a + 30 ≤ length soft = omega (arith, at-loop .loop .inv .0) in
+    let pre = start .pre .1 in
+    let masks = pre .1 .1 in (
       start .pre .0,
       (
         at-loop .before .values .ensures,
-        (part-searchable _ _ _ _ (at-loop .loop .inv .0) fits (start .pre .1 .0) (start .pre .1 .1 .0 .0) (start .pre .1 .1 .0 .1) (start .pre .1 .1 .1 .0) (start .pre .1 .1 .1 .1), at-loop .loop .inv .1),
+        (column-searchable (masks .0) (masks .1) (masks .2) (take (a + 30 - a) (drop a soft)) _ _ (part-long soft a fits) (part-range soft a fits (pre .0)) (masks .3) (pre .1 .0 .0) (pre .1 .0 .1), at-loop .loop .inv .2),
       ),
     )
 
@@ -54,10 +69,32 @@ loop-less : tie.Need-loop-less Inv-loop μ-loop
 loop-less c = search needs
 
 loop-again : tie.Need-loop-again Inv-loop μ-loop
-loop-again c = search needs
+loop-again c =
+    let found = c .before in
+    let turn = found .before .before .before .before .before .before .before .before in
+    let at-loop = turn .before in
+    let start = at-loop .before .before .before in
+    let soft = start .args .soft .now in
+    let a = at-loop .loop .a in
+    let inv = at-loop .loop .inv in
+    let fits : a + 30 ≤ length soft = omega (arith, inv .0, turn .loop-test .taken) in
+    let whole : (a + 30) % 30 ≡ 0 = omega (arith, inv .1) in (
+      fits,
+      whole,
+      found .search-column .ensures .0,
+      λ s i h masks.
+          let search : List ℕ → SearchResult ℕ = λ x. searched (trellis s short values x i) (start .args .limit) in
+          subst⁻¹ (λ (x : ℕ). Folded search soft (a + 30) (bitXor (at-loop .loop .fold) x)) (c .folded .ensures)
+          (one-more-folded search soft a _ _ (inv .1) (inv .3 s i h masks) (found .search-column .ensures .1 s i h masks)),
+    )
 
 returns : tie.Need-returns Inv-loop μ-loop
-returns c = search needs
+returns c =
+    let at-loop = c .before in
+    let inv = at-loop .loop .inv in
+    let soft = at-loop .before .before .before .args .soft .now in
+    let last : length soft - at-loop .loop .a < 30 = omega (arith, c .loop-test .left) in
+    λ s i h masks. all-folded _ soft _ _ (inv .1) (inv .0) last (inv .3 s i h masks)
 
 pub search-all-spec : {M : Type 1} → statement M
 search-all-spec =

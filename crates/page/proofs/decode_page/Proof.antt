@@ -5,7 +5,7 @@ use mathlib.Core.List.{List}
 use Rattle.column.specs.Shape.{short}
 use Rattle.concatenated.specs.Decode.{decoded}
 use Rattle.concatenated.specs.Readers.{shortReader}
-use Rattle.readings.specs.Steps.{searchOf}
+use Rattle.search.specs.Outcomes.{searchOf}
 use Rattle.concatenated.specs.OuterCode.{shortOuter}
 use Rattle.page.specs.Outcomes.{outcomeOf, dataAfter}
 use Rattle.page.proofs.PageOutcomes.{soft-columns, is-answered, is-refused, rows-data-is-a-word, answered-outcome, answered-data}

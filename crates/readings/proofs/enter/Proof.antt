@@ -3,7 +3,7 @@ use mathlib.Core.Path.{sym, ap, _∙_, subst}
 use Rattle.column.specs.Shape.{short}
 use Rattle.column.proofs.Levels.{reimaged-lt}
 use Rattle.column.proofs.Short.{sound}
-use Rattle.search.specs.declared.Outcome.{Outcome}
+use Rattle.search.specs.declared.SearchOutcome.{SearchOutcome}
 use Rattle.concatenated.specs.Decode.{symbol, mark, count}
 use Rattle.concatenated.specs.Flags.{flag}
 use Rattle.readings.specs.Steps.{asReading, WordInRange}
@@ -33,9 +33,9 @@ unfolding symbol mark count
 returns c =
     let start = c .before .before .before .before in
     let e = sym (c .before .before .found .given .1) in (
-      c .reimage .ensures ∙ ap (λ (x : Outcome). symbol short (start .args .level) (asReading (start .args .limit) x)) e,
-      ap (λ (x : Outcome). flag (mark (asReading (start .args .limit) x))) e,
-      ap (λ (x : Outcome). count (asReading (start .args .limit) x)) e,
+      c .reimage .ensures ∙ ap (λ (x : SearchOutcome). symbol short (start .args .level) (asReading (start .args .limit) x)) e,
+      ap (λ (x : SearchOutcome). flag (mark (asReading (start .args .limit) x))) e,
+      ap (λ (x : SearchOutcome). count (asReading (start .args .limit) x)) e,
     )
 
 returns-2 : tie.Need-returns-2
@@ -43,9 +43,9 @@ unfolding symbol mark count
 returns-2 c =
     let start = c .before .before in
     let e = sym (c .enum-told .given .1) in (
-      ap (λ (x : Outcome). symbol short (start .args .level) (asReading (start .args .limit) x)) e,
-      ap (λ (x : Outcome). flag (mark (asReading (start .args .limit) x))) e,
-      ap (λ (x : Outcome). count (asReading (start .args .limit) x)) e,
+      ap (λ (x : SearchOutcome). symbol short (start .args .level) (asReading (start .args .limit) x)) e,
+      ap (λ (x : SearchOutcome). flag (mark (asReading (start .args .limit) x))) e,
+      ap (λ (x : SearchOutcome). count (asReading (start .args .limit) x)) e,
     )
 
 pub enter-spec : {M : Type 1} → statement M

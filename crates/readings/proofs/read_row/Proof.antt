@@ -7,9 +7,10 @@ use Rattle.stack.specs.Places.{Room}
 use Rattle.concatenated.specs.Decode.{count}
 use Rattle.concatenated.specs.SoftPage.{Soft}
 use Rattle.concatenated.specs.Readers.{shortReader}
-use Rattle.readings.specs.Steps.{searchOf}
+use Rattle.search.specs.Outcomes.{searchOf}
+use Rattle.search.proofs.ShortSearch.{column-searchable}
 use Rattle.concatenated.proofs.Lists.{all-at}
-use Rattle.readings.proofs.RowReading.{RowFilling, nothing-read, one-more-read, all-read, reads-it, word-in-range, count-within-the-limit, column-searchable}
+use Rattle.readings.proofs.RowReading.{RowFilling, nothing-read, one-more-read, all-read, reads-it, word-in-range, count-within-the-limit, soft-column}
 use native.Mathlib.Omega.{arith}
 use borrow.Author.Needs.{needs}
 use Rattle.readings.proofs.read_row.Statement.{statement}
@@ -58,7 +59,8 @@ search-column-requires c κs =
     let j = turn .loop .j in
     let long : j < length work = omega (arith, start .pre .2 .many, c .before .before .before .before .before .before .before .loop-test .taken) in
     let masks = made .masks-of .ensures in
-    (start .pre .1, (start .pre .3, (column-searchable (searchOf (start .args .in-supercodes)) (start .args .level) (start .pre .0) _ _ _ (all-at (λ x. (length x ≡ 30) × Soft x) work j [] (start .pre .2 .soft) long) (masks .0) (masks .1) (masks .2), turn .loop .inv .1)))
+    let soft = all-at (λ x. (length x ≡ 30) × Soft x) work j [] (start .pre .2 .soft) long in
+    (start .pre .1, (start .pre .3, (column-searchable (searchOf (start .args .in-supercodes)) (start .args .level) (start .pre .0) _ _ _ (soft .0) (soft-column (getD work j []) soft) (masks .0) (masks .1) (masks .2), turn .loop .inv .1)))
 
 enter-requires : tie.Need-enter-requires Inv-loop μ-loop
 enter-requires c κs =

@@ -2,9 +2,10 @@
 use mathlib.Core.Path.{subst}
 use Prim.Native.Nat.{ℕ, _≤_, _<_}
 use borrow.Author.Tests.{eq-eqb, ne-eqb, le-ltb, lt-ltb, le-leb, lt-leb}
-use Rattle.trellis.specs.Demand.{whole, supercode}
+use Rattle.search.specs.Outcomes.{searchOf}
 use Rattle.questions.specs.Questions.{firstAbove}
-use Rattle.store_searches.proofs.Outcomes.{searchable-column}
+use Rattle.search.proofs.ShortSearch.{column-searchable}
+use Rattle.store_searches.proofs.Outcomes.{asked-range}
 use borrow.Author.Needs.{needs}
 use Rattle.store_searches.proofs.search_either.Statement.{statement}
 use Rattle.store_searches.proofs.search_either.Tie as tie
@@ -32,69 +33,32 @@ returns-5 c =
     let bad : firstAbove soft 7 < 30 = subst (λ (t : ℕ). t < 30) (place .ensures) (c .if5 .taken) in
     simp (eq-eqb _ _ (asked .before .before .before .if1 .left), lt-ltb _ _ (asked .before .before .if2 .left), le-leb _ _ (asked .before .if3 .left), le-leb _ _ (asked .if4 .left), lt-leb _ _ bad, place .ensures)
 
-left-masks-requires : tie.Need-left-masks-requires
-left-masks-requires c κs = search needs
-
-right-masks-requires : tie.Need-right-masks-requires
-right-masks-requires c κs = search needs
+masks-of-requires : tie.Need-masks-of-requires
+masks-of-requires c κs = search needs
 
 search-by-masks-requires : tie.Need-search-by-masks-requires
 search-by-masks-requires c κs =
-    let rights = c .before .before in
-    let lefts = rights .before in
-    let good = lefts .before .before in
+    let made = c .before .before .before .before in
+    let good = made .before in
     let asked = good .before .before in
     let start = asked .before .before .before .before .before in
     let soft = start .args .soft .now in
-    let values : 30 ≤ firstAbove soft 7 = subst (λ (t : ℕ). 30 ≤ t) (good .before .first-above .ensures) (good .if5 .left) in (
+    let values : 30 ≤ firstAbove soft 7 = subst (λ (t : ℕ). 30 ≤ t) (good .before .first-above .ensures) (good .if5 .left) in
+    let masks = made .masks-of .ensures in (
       asked .if4 .left,
-      searchable-column supercode (start .args .level) soft (lefts .left-masks .result) (rights .right-masks .result) (asked .before .before .if2 .left) (asked .before .before .before .if1 .left) values (search needs) (search needs)
-          (lefts .left-masks .ensures, rights .right-masks .ensures),
+      column-searchable (searchOf (start .args .in-supercodes)) (start .args .level) (asked .before .before .if2 .left) soft _ _ (asked .before .before .before .if1 .left) (asked-range soft values) (masks .0) (masks .1) (masks .2),
     )
 
 returns-6 : tie.Need-returns-6
 returns-6 c =
-    let rights = c .before .before .before in
-    let lefts = rights .before in
-    let good = lefts .before .before in
+    let made = c .before .before .before .before .before in
+    let good = made .before in
     let asked = good .before .before in
     let start = asked .before .before .before .before .before in
     let soft = start .args .soft .now in
     let values : 30 ≤ firstAbove soft 7 = subst (λ (t : ℕ). 30 ≤ t) (good .before .first-above .ensures) (good .if5 .left) in
-    let found = c .search-by-masks .ensures supercode (start .args .level) (asked .before .before .if2 .left) (lefts .left-masks .ensures, rights .right-masks .ensures) in
-    simp (lefts .before .if6 .taken, eq-eqb _ _ (asked .before .before .before .if1 .left), lt-ltb _ _ (asked .before .before .if2 .left), le-leb _ _ (asked .before .if3 .left), le-leb _ _ (asked .if4 .left), le-leb _ _ values, found)
-
-level-masks-requires : tie.Need-level-masks-requires
-level-masks-requires c κs = search needs
-
-no-masks-requires : tie.Need-no-masks-requires
-no-masks-requires c κs = search needs
-
-search-by-masks-requires-2 : tie.Need-search-by-masks-requires-2
-search-by-masks-requires-2 c κs =
-    let rights = c .before .before in
-    let lefts = rights .before in
-    let good = lefts .before .before in
-    let asked = good .before .before in
-    let start = asked .before .before .before .before .before in
-    let soft = start .args .soft .now in
-    let values : 30 ≤ firstAbove soft 7 = subst (λ (t : ℕ). 30 ≤ t) (good .before .first-above .ensures) (good .if5 .left) in (
-      asked .if4 .left,
-      searchable-column whole (start .args .level) soft (lefts .level-masks .result) (rights .no-masks .result) (asked .before .before .if2 .left) (asked .before .before .before .if1 .left) values (search needs) (search needs)
-          (lefts .level-masks .ensures, rights .no-masks .ensures),
-    )
-
-returns-7 : tie.Need-returns-7
-returns-7 c =
-    let rights = c .before .before .before in
-    let lefts = rights .before in
-    let good = lefts .before .before in
-    let asked = good .before .before in
-    let start = asked .before .before .before .before .before in
-    let soft = start .args .soft .now in
-    let values : 30 ≤ firstAbove soft 7 = subst (λ (t : ℕ). 30 ≤ t) (good .before .first-above .ensures) (good .if5 .left) in
-    let found = c .search-by-masks2 .ensures whole (start .args .level) (asked .before .before .if2 .left) (lefts .level-masks .ensures, rights .no-masks .ensures) in
-    simp (lefts .before .if6 .left, eq-eqb _ _ (asked .before .before .before .if1 .left), lt-ltb _ _ (asked .before .before .if2 .left), le-leb _ _ (asked .before .if3 .left), le-leb _ _ (asked .if4 .left), le-leb _ _ values, found)
+    let found = c .search-by-masks .ensures (searchOf (start .args .in-supercodes)) (start .args .level) (asked .before .before .if2 .left) (made .masks-of .ensures .0) in
+    simp (eq-eqb _ _ (asked .before .before .before .if1 .left), lt-ltb _ _ (asked .before .before .if2 .left), le-leb _ _ (asked .before .if3 .left), le-leb _ _ (asked .if4 .left), le-leb _ _ values, found)
 
 pub search-either-spec : {M : Type 1} → statement M
 search-either-spec =
@@ -106,11 +70,6 @@ search-either-spec =
     returns-4
     first-above-requires
     returns-5
-    left-masks-requires
-    right-masks-requires
+    masks-of-requires
     search-by-masks-requires
-    returns-6
-    level-masks-requires
-    no-masks-requires
-    search-by-masks-requires-2
-    returns-7)
+    returns-6)

@@ -4,7 +4,8 @@ use Prim.Native.Nat.{ℕ, zero, suc, _<_, _≤_}
 use native.Mathlib.Omega.{arith}
 use Rattle.poly.specs.Polynomial.{add, scale, productIn, product, reduced, remainderIn, remainder}
 use Rattle.column.specs.Shape.{short}
-use Rattle.column.proofs.MaskTable.{residues, maskBy, masksFrom, maskTable, masks-known}
+use Rattle.column.specs.Tabulated.{tabulated}
+use Rattle.column.proofs.MaskTable.{residues, maskBy, maskTable, masks-known}
 use Rattle.column.proofs.masks.left_masks.Statement.{statement}
 use Rattle.column.proofs.masks.left_masks.Tie as tie
 
@@ -20,11 +21,11 @@ high (suc (suc zero)) h = refl
 high (suc (suc (suc i))) h = refl
 
 returns : tie.Need-returns
-unfolding maskTable masksFrom maskBy residues product productIn remainder remainderIn reduced scale add
+unfolding maskTable tabulated maskBy residues product productIn remainder remainderIn reduced scale add
 returns c = masks-known 30 _ _ (low (c .before .args .level) (omega arith)) _ refl
 
 returns-2 : tie.Need-returns-2
-unfolding maskTable masksFrom maskBy residues product productIn remainder remainderIn reduced scale add
+unfolding maskTable tabulated maskBy residues product productIn remainder remainderIn reduced scale add
 returns-2 c = masks-known 30 _ _ (high (c .before .args .level) (omega arith)) _ refl
 
 pub left-masks-spec : {M : Type 1} → statement M
