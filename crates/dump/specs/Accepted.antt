@@ -1,4 +1,4 @@
--- What reading accepts and what writing makes: 01, "reading accepts exactly what writing makes". Assumes nothing.
+-- 01: "reading accepts exactly what writing makes": what reading accepts, what writing makes. Assumes nothing.
 use Prim.Native.Nat.{ℕ, _<_, _≤_}
 use mathlib.Core.Bool.{true}
 use mathlib.Core.List.{List}

@@ -1,4 +1,4 @@
--- One block of the dump of a soft page: 01, "The dump". Assumes nothing.
+-- 01: "The dump", one block: its bytes, and questions 7 and 8. Assumes nothing.
 use Prim.Native.Nat.{ℕ, _+_, _*_, _-_, _/_, _%_}
 use mathlib.Core.Bool.{Bool, true, false, cond}
 use mathlib.Core.List.{List, [], _∷_, _++_}

@@ -1,4 +1,4 @@
--- The check of a dump block. Assumes nothing.
+-- 01: "The dump", the check of a block. Assumes nothing.
 use Prim.Native.Nat.{ℕ, zero, suc, _+_, _*_, _%_}
 use mathlib.Core.List.{List}
 use lib.ListN.{getD}

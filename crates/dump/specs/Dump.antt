@@ -1,4 +1,4 @@
--- The dump of a soft page, and the soft page of a dump: 01, "The dump". Assumes nothing.
+-- 01: "The dump": that of a soft page, and the soft page of a dump. Assumes nothing.
 use Prim.Native.Nat.{ℕ, _+_, _*_, _/_, _%_}
 use mathlib.Core.List.{List}
 use lib.ListN.{getD, take, drop}

@@ -1,4 +1,4 @@
--- Lists by their entries and by their parts, and a test at every place. Assumes nothing.
+-- For the code's contracts: lists by their entries and by their parts, and a test at every place, as a loop makes them; the definitions of 01's words are written in them. Assumes nothing.
 use Prim.Native.Nat.{ℕ, zero, suc}
 use mathlib.Core.Bool.{Bool, true, false, cond}
 use mathlib.Core.List.{List, [], _∷_, _++_}

@@ -1,4 +1,4 @@
--- What reading asks of a block by ranges of bytes. Assumes nothing.
+-- For the code's contracts: what reading asks of a block, by ranges of bytes. Assumes nothing.
 use Prim.Native.Nat.{ℕ, _+_, _*_, _-_, _/_}
 use mathlib.Core.Bool.{Bool}
 use mathlib.Core.List.{List}

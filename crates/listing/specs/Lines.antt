@@ -1,4 +1,4 @@
--- The lines of a page's listing: 01, "The station's interface". Assumes nothing.
+-- 01: "The station's interface", the lines that the program prints. Assumes nothing.
 use mathlib.Core.List.{List, _++_}
 use Prim.Native.Nat.{ℕ}
 use lib.ListN.{getD}

@@ -1,4 +1,4 @@
--- Text as the bytes of its ASCII characters: words, decimal numbers and bytes in hexadecimal. Assumes nothing.
+-- 01: "The station's interface", text as the bytes of its ASCII characters: words, decimal numbers, "lower-case hexadecimal". Assumes nothing.
 use mathlib.Core.Bool.{cond}
 use mathlib.Core.List.{List, [], _∷_, _++_}
 use mathlib.Core.Path.{_≡_}
@@ -28,12 +28,12 @@ unfoldable pub hexOf : List ℕ → List ℕ
 hexOf [] = []
 hexOf (b ∷ bs) = glyph (b / 16) ∷ glyph (b % 16) ∷ hexOf bs
 
--- how long the first line of a text is, its newline included
+-- For the code's contracts: how long the first line of a text is, its newline included
 unfoldable pub lineLength : List ℕ → ℕ
 lineLength [] = 0
 lineLength (x ∷ xs) = cond (eqb x 10) 1 (suc (lineLength xs))
 
--- in a buffer a text was put behind the first `at` bytes, of at most `most` bytes; it ends at r
+-- For the code's contracts: in a buffer a text was put behind the first `at` bytes, of at most `most` bytes; it ends at r
 pub record Appended (at : ℕ) (text : List ℕ) (most : ℕ) (old : List ℕ) (r : ℕ) (new : List ℕ) : Type 0 where
   pub bytes : take r new ≡ take at old ++ text
   pub reach : r ≤ at + most

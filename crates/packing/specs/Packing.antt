@@ -1,4 +1,4 @@
--- Packing by digits: a run of bytes, or of symbols, is one number, its first entry the highest digit. Assumes nothing.
+-- 01: "Rows and page", bytes, symbols and columns by digits: a run of them is one number, its first entry the highest digit. Assumes nothing.
 use mathlib.Core.List.{List, [], _∷_}
 use Prim.Native.Nat.{ℕ, _+_, _*_, _/_, _%_, _^_}
 use Rattle.packing.specs.declared.Symbols.{Symbols}

@@ -1,4 +1,4 @@
--- 01, "The station's interface": what the program prints for an input. Assumes nothing.
+-- 01: "The station's interface", what the program prints for an input. Assumes nothing.
 use mathlib.Core.List.{List}
 use Prim.Native.Nat.{ℕ}
 use lib.ListN.{replicate}

@@ -1,4 +1,4 @@
--- What the page decoding entry returns and leaves: 01: "Its decoding and the program use the supercode search with limit 500". Assumes nothing.
+-- 01: "Its decoding and the program use the supercode search with limit 500": the questions of page decoding for C, and its answer. Assumes nothing.
 use mathlib.Core.Bool.{cond}
 use mathlib.Core.List.{List}
 use mathlib.Core.Path.{_≡_}
@@ -26,11 +26,11 @@ askDecode soft bytes report refusal next =
 abbrev pub decodeAnswer : List ℕ → List ℕ → List ℕ → PageOutcome
 decodeAnswer soft bytes report = askDecode soft bytes report refusedPage (outcomeOf (decodedPage supercode soft limit))
 
--- the report of an answered page; after a refusal the old bytes
+-- For the code's contracts: the report of an answered page; after a refusal the old bytes
 abbrev pub reportAfter : List ℕ → PageOutcome → List ℕ
 reportAfter old o = cond (eqb (o .number) 0) (reportOf o) old
 
--- the entry returned r and left the data and the report that the page settles
+-- For the code's contracts: the entry returned r and left the data and the report that the page settles
 pub record PageReturned (soft bytes report : List ℕ) (r : ℕ) (newBytes newReport : List ℕ) : Type 0 where
   pub answer : r ≡ returned (decodeAnswer soft bytes report .number) (decodeAnswer soft bytes report .place)
   pub bytes-are : newBytes ≡ askDecode soft bytes report (λ n p. bytes) (dataAfter bytes (decodedPage supercode soft limit))

@@ -1,4 +1,4 @@
--- The report of a page. Assumes nothing.
+-- For the code's contracts: the report of a page in 12 bytes. Assumes nothing.
 use mathlib.Core.List.{List, [], _∷_}
 use Prim.Native.Nat.{ℕ, _+_, _*_, _/_, _%_}
 use lib.ListN.{getD}
@@ -8,7 +8,7 @@ use Rattle.page.specs.declared.PageOutcome.{PageOutcome}
 abbrev pub stepBytes : ℕ → List ℕ → List ℕ
 stepBytes n rest = n / 16777216 % 256 ∷ n / 65536 % 256 ∷ n / 256 % 256 ∷ n % 256 ∷ rest
 
--- 01: "each level's two totals": the changed and the erased columns of levels 0 to 3
+-- "each level's two totals": the changed and the erased columns of levels 0 to 3
 abbrev pub totalBytes : List ℕ → List ℕ → List ℕ
 totalBytes c e = getD c 0 0 ∷ getD e 0 0 ∷ getD c 1 0 ∷ getD e 1 0 ∷ getD c 2 0 ∷ getD e 2 0 ∷ getD c 3 0 ∷ getD e 3 0 ∷ []
 

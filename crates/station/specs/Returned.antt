@@ -1,4 +1,4 @@
--- What an entry returns. Assumes nothing.
+-- For the code's contracts: what an entry for C returns and leaves. Assumes nothing.
 use mathlib.Core.List.{List}
 use mathlib.Core.Path.{_≡_}
 use Prim.Native.Nat.{ℕ, _+_, _*_}

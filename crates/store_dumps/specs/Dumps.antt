@@ -1,4 +1,4 @@
--- 01: "Questions put to every call", those of the dump calls. Assumes nothing.
+-- 01: "Questions put to every call", those of writing and reading a dump. Assumes nothing.
 use mathlib.Core.List.{List}
 use Prim.Native.Nat.{ℕ, zero, suc}
 use lib.Dec.{eqb, leb}
