@@ -1,7 +1,7 @@
 -- The output for an input of any length, and that a buffer with room for more than a dump shows which it is: 01, "fewer or more than 2,048 bytes give 1". Assumes nothing.
 use mathlib.Core.List.{List}
 use mathlib.Core.Path.{_≡_, ap, _∙_, sym}
-use Prim.Native.Nat.{ℕ, _<_}
+use Prim.Native.Nat.{ℕ, _<_, _≤_}
 use native.Mathlib.Decide.{decLe}
 use native.Mathlib.Omega.{arith}
 use borrow.Author.Tests.{ne-eqb}
@@ -9,7 +9,7 @@ use lib.ListN.{length, take}
 use lib.Seq.{take-all, length-take-le}
 use Rattle.listing.specs.Lines.{refusedLine}
 use Rattle.readpage.specs.Report.{outputOf}
-use Rattle.readpage.specs.Input.{PrintedFor}
+use Rattle.readpage.specs.Input.{WasRead, PrintedFor}
 
 pub other-lengths-give-one : (input : List ℕ) → (length input ≡ 2048 → ⊥) → outputOf input ≡ refusedLine 1 0
 unfolding outputOf
@@ -25,6 +25,10 @@ one-byte-more-is-enough input room more =
           other-lengths-give-one (take room input) (λ e. omega arith) ∙ sym (other-lengths-give-one input (λ e. omega arith))
     ]
 
--- so what was read settles what is printed
+-- what was read may have been the whole input
+pub what-was-read-is-an-input : (buffer : List ℕ) (n : ℕ) → n ≤ length buffer → WasRead (take n buffer) buffer n
+what-was-read-is-an-input buffer n h = take-all (length buffer) (take n buffer) (omega (arith, length-take-le n buffer h))
+
+-- and it settles what is printed
 pub printed-for : (buffer : List ℕ) (n : ℕ) → 2048 < length buffer → {text : List ℕ} → text ≡ outputOf (take n buffer) → PrintedFor buffer n text
 printed-for buffer n more e input read = e ∙ ap outputOf (sym read) ∙ one-byte-more-is-enough input (length buffer) more

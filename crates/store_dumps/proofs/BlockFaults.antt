@@ -24,7 +24,7 @@ module _ (dump : List ℕ) (b : ℕ) where
   block-number e f g = simp (f, g, e)
 
   -- the number is not 0: the block is refused by it, whatever would follow
-  pub block-refused : {n : ℕ} → n ≡ number (askBlock dump b Done) → (n ≡ 0 → ⊥) → (next : Outcome) → askBlock dump b next ≡ Refused n b
+  block-refused : {n : ℕ} → n ≡ number (askBlock dump b Done) → (n ≡ 0 → ⊥) → (next : Outcome) → askBlock dump b next ≡ Refused n b
   unfolding askFixed askCheck
   block-refused {n} e bad next = by-tests (fixedRight (blockAt dump b) b) (checkRight (blockAt dump b)) e
     where
@@ -34,7 +34,7 @@ module _ (dump : List ℕ) (b : ℕ) where
       by-tests true true e = absurd (bad e)
 
   -- the number is 0: what follows is asked
-  pub block-passed : {n : ℕ} → n ≡ number (askBlock dump b Done) → n ≡ 0 → (next : Outcome) → askBlock dump b next ≡ next
+  block-passed : {n : ℕ} → n ≡ number (askBlock dump b Done) → n ≡ 0 → (next : Outcome) → askBlock dump b next ≡ next
   unfolding askFixed askCheck
   block-passed {n} e good next = by-tests (fixedRight (blockAt dump b) b) (checkRight (blockAt dump b)) e
     where
