@@ -15,7 +15,7 @@ use Rattle.reedsolomon.specs.Row.{symbol, marked, HasInFront, encodedRow}
 use Rattle.reedsolomon.specs.Steps.{RowRoots}
 use Rattle.reedsolomon.proofs.Answers.{word-is-of-symbols, answer-if, answer-only-if}
 use Rattle.reedsolomon.proofs.Remainders.{RowOf}
-use Rattle.reedsolomon.proofs.Encoded.{short-row-is-encoded}
+use Rattle.reedsolomon.proofs.Encoded.{encoded-row-has-data-in-front}
 use Rattle.concatenated.specs.Format.{shortPage, shortRoots, dataCount}
 use Rattle.concatenated.specs.Outer.{isIn, OuterLaws}
 use Rattle.concatenated.specs.Flags.{flag, isOne}
@@ -51,7 +51,7 @@ module _ (i : ℕ) (h : i < 4) (d : List ℕ) (word : WordOf 64 (dataCount short
   T = shortRoots i
 
   is-encoded : RowOf 6 67 63 T d (encodedRow 6 67 63 T d)
-  is-encoded = short-row-is-encoded T (roots-of-rows i h) d (omega (arith, word .0, at-most-30-roots i h)) (word-is-of-symbols 6 (dataCount shortPage i) d word)
+  is-encoded = encoded-row-has-data-in-front 6 67 63 T primitive64 (lit< tt) d (omega (arith, word .0, at-most-30-roots i h)) (word-is-of-symbols 6 (dataCount shortPage i) d word)
 
   encodes-it : ShortCodeword i (shortEncoder i d)
   unfolding shortEncoder

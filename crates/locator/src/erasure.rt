@@ -1,5 +1,5 @@
 // The erased columns: how many, and the modified syndromes, from which their locators are taken out.
-use syndromes::syndrome;
+use syndromes::powers;
 ghost use mathlib.Core.Path.{_≡_};
 ghost use Prim.Native.Nat.{ℕ, suc, _≤_, _<_};
 ghost use lib.Dec.{eqb};
@@ -47,7 +47,7 @@ pub fn modify_syndromes(s: &mut [u8], marks: &[u8], n: usize)
     if n == 0 {
         return;
     }
-    let all = syndrome::locators();
+    let all = powers::locators();
     for j in 0..63 {
         if marks[j] == 1 {
             modify(s, all[j]);

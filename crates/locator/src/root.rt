@@ -1,6 +1,6 @@
 // The error locations: the erased columns and the roots of the locator polynomial.
 use syndromes::lists;
-use syndromes::syndrome;
+use syndromes::powers;
 ghost use mathlib.Core.Path.{_≡_};
 ghost use mathlib.Core.Logic.{_⊎_};
 ghost use Prim.Native.Nat.{ℕ, _≤_};
@@ -39,7 +39,7 @@ pub fn all_values(row: &[u8], d: usize) -> [u8; 64]
     requires { ⌜ (d ≤ 15) × (32 ≤ length (now row)) ⌝ }
     ensures { λ r. ⌜ Entries 63 (λ (j : ℕ). rowValue 6 67 (now (row .entry)) d (locatorAt 6 67 63 j)) r ⌝ }
 {
-    let all = syndrome::locators();
+    let all = powers::locators();
     let mut r = [0u8; 64];
     let mut b = 0;
     while b < 4 {
@@ -84,7 +84,7 @@ pub fn locators_of(flags: &[u8]) -> Listed
     requires { ⌜ 63 ≤ length (now flags) ⌝ }
     ensures { λ r. ⌜ LocatorsOf 6 67 63 (now (flags .entry)) (r .xs) (r .k) ⌝ }
 {
-    let all = syndrome::locators();
+    let all = powers::locators();
     let mut xs = [0u8; 64];
     let mut k: usize = 0;
     for j in 0..63 {

@@ -5,22 +5,19 @@ use mathlib.Core.List.{List, [], _∷_, _++_}
 use Prim.Native.Nat.{ℕ, zero, suc, _+_, _^_, _≤_, _<_}
 use native.Mathlib.Nat.{not-suc-le-zero, le-of-suc-le-suc}
 use native.Mathlib.Omega.{arith}
-use lib.Dec.{lit<}
 use lib.ListN.{length, length-append, List·getD-append, List·getD-eq-default}
 use lib.Seq.{getD-append-add}
 use Rattle.poly.specs.Polynomial.{add}
 use Rattle.poly.proofs.Sum.{lt-or-le}
-use Rattle.field.specs.Element.{mul, inverse, Primitive}
+use Rattle.field.specs.Element.{mul, inverse, α, Primitive}
 use Rattle.field.specs.Laws.{Field}
-use Rattle.field.proofs.Short.{primitive64}
 use Rattle.reedsolomon.specs.Encoding.{Divided}
 use Rattle.reedsolomon.specs.Row.{symbol, Symbols, encodedRow}
-use Rattle.reedsolomon.specs.Steps.{WrittenAt, RowRoots, HasGenerator, IsRemainder}
+use Rattle.reedsolomon.specs.Steps.{WrittenAt, IsRemainder}
 use Rattle.reedsolomon.proofs.FieldFacts.{mul-zero}
-use Rattle.reedsolomon.proofs.Encoding.{division-of-no-data, division-of-one-symbol-more}
+use Rattle.reedsolomon.proofs.Encoding.{generatorOf, is-generator, generator-ends, division-of-no-data, division-of-one-symbol-more}
 use Rattle.reedsolomon.proofs.Answers.{K, encoded-row-if}
 use Rattle.reedsolomon.proofs.Remainders.{RowOf, data-and-remainder, row-of-data-and-remainder}
-use Rattle.reedsolomon.proofs.Tables.{table30, table12, table6, table4, generator30, generator12, generator6, generator4}
 
 -- the list of the first n values of f
 abbrev listOf : ℕ → (ℕ → ℕ) → List ℕ
@@ -36,26 +33,29 @@ listOf-at zero f j l = absurd (not-suc-le-zero l)
 listOf-at (suc n) f zero l = refl
 listOf-at (suc n) f (suc j) l = listOf-at n (λ i. f (suc i)) j (le-of-suc-le-suc l)
 
-module _ (m g N T : ℕ) (t : Primitive m g) (few : N < 2 ^ m) (a : List ℕ) (gen : HasGenerator m g T a) (d : List ℕ) (whole : length d + T ≡ N) (hd : Symbols m d) where
+module _ (m g N T : ℕ) (t : Primitive m g) (few : N < 2 ^ m) (d : List ℕ) (whole : length d + T ≡ N) (hd : Symbols m d) where
   F : Field (λ a. a < 2 ^ m) add (mul m g) 0 1 (inverse m g)
   F = K m g N T t few
+
+  abbrev a : ℕ → ℕ
+  a = generatorOf F α T
 
   -- the remainder of the first k data
   abbrev remainder : ℕ → ℕ → ℕ
   remainder zero i = 0
-  remainder (suc k) i = add (remainder k (suc i)) (mul m g (add (symbol d k) (remainder k 0)) (symbol a (suc i)))
+  remainder (suc k) i = add (remainder k (suc i)) (mul m g (add (symbol d k) (remainder k 0)) (a (suc i)))
 
-  divided : (k : ℕ) → Divided add (mul m g) 0 1 (λ a. a < 2 ^ m) T (symbol a) (symbol d) k (remainder k)
-  divided zero = division-of-no-data F T (symbol a) (gen .generator .monic) (symbol d) (remainder zero) (λ j. refl)
+  divided : (k : ℕ) → Divided add (mul m g) 0 1 (λ a. a < 2 ^ m) T a (symbol d) k (remainder k)
+  divided zero = division-of-no-data F T a (is-generator F α T .monic) (symbol d) (remainder zero) (λ j. refl)
   divided (suc k) = go (divided k)
     where
-      go : Divided add (mul m g) 0 1 (λ a. a < 2 ^ m) T (symbol a) (symbol d) k (remainder k)
-          → Divided add (mul m g) 0 1 (λ a. a < 2 ^ m) T (symbol a) (symbol d) (suc k) (remainder (suc k))
+      go : Divided add (mul m g) 0 1 (λ a. a < 2 ^ m) T a (symbol d) k (remainder k)
+          → Divided add (mul m g) 0 1 (λ a. a < 2 ^ m) T a (symbol d) (suc k) (remainder (suc k))
       go v =
-          division-of-one-symbol-more F T (symbol a) (gen .generator .monic) (symbol d) (remainder k) (remainder (suc k)) k (hd k) v
+          division-of-one-symbol-more F T a (is-generator F α T .monic) (symbol d) (remainder k) (remainder (suc k)) k (hd k) v
           (record {
             written = λ i l. refl;
-            kept = λ i l. ap₂ (λ (x y : ℕ). add x (mul m g (add (symbol d k) (remainder k 0)) y)) (v .ended (suc i) (omega arith)) (gen .ended (suc i) (omega arith))
+            kept = λ i l. ap₂ (λ (x y : ℕ). add x (mul m g (add (symbol d k) (remainder k 0)) y)) (v .ended (suc i) (omega arith)) (generator-ends F α T (suc i) (omega arith))
                 ∙ ap (add 0) (mul-zero F (add (symbol d k) (remainder k 0))) ∙ F .sum-zero 0 ∙ sym (v .ended i l);
           })
 
@@ -70,9 +70,9 @@ module _ (m g N T : ℕ) (t : Primitive m g) (few : N < 2 ^ m) (a : List ℕ) (g
   is-remainder : IsRemainder m g T d (length d) r
   is-remainder =
       record {
-        divisor = symbol a;
-        generator = gen .generator;
-        divided = subst (Divided add (mul m g) 0 1 (λ a. a < 2 ^ m) T (symbol a) (symbol d) (length d)) (sym same) (divided (length d));
+        divisor = a;
+        generator = is-generator F α T;
+        divided = subst (Divided add (mul m g) 0 1 (λ a. a < 2 ^ m) T a (symbol d) (length d)) (sym same) (divided (length d));
       }
 
   abbrev row : List ℕ
@@ -100,14 +100,3 @@ module _ (m g N T : ℕ) (t : Primitive m g) (few : N < 2 ^ m) (a : List ℕ) (g
   -- and no other row has
   pub encoded-row-is-the-only-one : (c : List ℕ) → RowOf m g N T d c → c ≡ encodedRow m g N T d
   encoded-row-is-the-only-one c h = sym (encoded-row-if m g N T t few d c (omega arith) (h .0) (h .1) (h .2))
-
--- the rows of the short page
-pub short-row-is-encoded : (T : ℕ) → RowRoots T → (d : List ℕ) → length d + T ≡ 63 → Symbols 6 d → RowOf 6 67 63 T d (encodedRow 6 67 63 T d)
-short-row-is-encoded T h d whole hd =
-    ⊎-elim (λ e. by table30 (subst (λ (x : ℕ). HasGenerator 6 67 x table30) (sym e) generator30))
-    (λ r. ⊎-elim (λ e. by table12 (subst (λ (x : ℕ). HasGenerator 6 67 x table12) (sym e) generator12))
-    (λ r. ⊎-elim (λ e. by table6 (subst (λ (x : ℕ). HasGenerator 6 67 x table6) (sym e) generator6))
-    (λ e. by table4 (subst (λ (x : ℕ). HasGenerator 6 67 x table4) (sym e) generator4)) r) r) h
-  where
-    by : (a : List ℕ) → HasGenerator 6 67 T a → RowOf 6 67 63 T d (encodedRow 6 67 63 T d)
-    by a gen = encoded-row-has-data-in-front 6 67 63 T primitive64 (lit< tt) a gen d whole hd

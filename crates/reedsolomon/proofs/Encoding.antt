@@ -1,9 +1,9 @@
 -- Data followed by their remainder are a codeword, and the only one with these data in front. Assumes nothing.
 use mathlib.Core.Path.{_≡_, refl, sym, ap, ap₂, _∙_, subst}
 use mathlib.Core.Bool.{true}
-use Prim.Native.Nat.{ℕ, suc, _+_, _<_}
+use Prim.Native.Nat.{ℕ, zero, suc, _+_, _≤_, _<_}
 use native.Mathlib.Nat.{le-refl}
-use native.Mathlib.Decide.{decLe}
+use native.Mathlib.Decide.{ℕ-discrete, decLe}
 use native.Mathlib.Omega.{arith}
 use Rattle.field.specs.Laws.{Field}
 use Rattle.reedsolomon.specs.Sums.{power, value, position}
@@ -13,7 +13,7 @@ use Rattle.reedsolomon.specs.Encoding.{Generator, RegisterStep, Divided}
 use Rattle.reedsolomon.proofs.FieldFacts.{mul-zero, zero-mul, sum-mul, sum-twice, mul-exchange}
 use Rattle.reedsolomon.proofs.Polynomials.{value-of-equals, value-of-zeros, value-of-combination, value-first, value-in-parts}
 use Rattle.reedsolomon.proofs.Counting.{count-of-all, nonzeros-of-end}
-use Rattle.reedsolomon.proofs.Product.{product-has-marked-roots}
+use Rattle.reedsolomon.proofs.Product.{product-of-no-locators, product-with-marked-locator, product-has-marked-roots}
 use Rattle.reedsolomon.proofs.Reach.{close-codewords-are-equal}
 
 module _ {F : Type 0} {In : F → Type 0} {_⊕_ _⊗_ : F → F → F} {𝟘 𝟙 : F} {inv : F → F} (K : Field In _⊕_ _⊗_ 𝟘 𝟙 inv) where
@@ -98,6 +98,47 @@ module _ {F : Type 0} {In : F → Type 0} {_⊕_ _⊗_ : F → F → F} {𝟘 �
             subst (λ (t : ℕ). value-of (suc t) (λ i. s (b + i)) (α ^^ suc i) ≡ 𝟘) k
             (product-has-marked-roots K (λ i. α ^^ suc i) (λ i. true) e T s m b (omega arith) i l refl);
       }
+
+  -- so there is one for every number of roots
+  module _ (α : F) (T : ℕ) where
+    -- the product of x + α ^ 1 to x + α ^ n, the lowest coefficient at the entry T
+    abbrev productOfRoots : ℕ → ℕ → F
+    productOfRoots zero i = elim (ℕ-discrete i T) [ yes q ↦ 𝟙 | no q ↦ 𝟘 ]
+    productOfRoots (suc n) i = productOfRoots n (suc i) ⊕ α ^^ suc n ⊗ productOfRoots n i
+
+    is-product : (n : ℕ) → n ≤ T → ProductPolynomial In _⊕_ _⊗_ 𝟘 𝟙 (λ i. α ^^ suc i) (λ i. true) n T (productOfRoots n)
+    is-product zero l = product-of-no-locators K (λ i. α ^^ suc i) (λ i. true) T (productOfRoots zero) (at-end (ℕ-discrete T T)) (λ i. elsewhere i (ℕ-discrete i T))
+      where
+        at-end : (d : Dec (T ≡ T)) → elim d [ yes q ↦ 𝟙 | no q ↦ 𝟘 ] ≡ 𝟙
+        at-end (yes q) = refl
+        at-end (no q) = absurd (q refl)
+
+        elsewhere : (i : ℕ) (d : Dec (i ≡ T)) → (i ≡ T → ⊥) → elim d [ yes q ↦ 𝟙 | no q ↦ 𝟘 ] ≡ 𝟘
+        elsewhere i (yes q) n = absurd (n q)
+        elsewhere i (no q) n = refl
+    is-product (suc n) l = go (is-product n (omega arith))
+      where
+        go : ProductPolynomial In _⊕_ _⊗_ 𝟘 𝟙 (λ i. α ^^ suc i) (λ i. true) n T (productOfRoots n)
+            → ProductPolynomial In _⊕_ _⊗_ 𝟘 𝟙 (λ i. α ^^ suc i) (λ i. true) (suc n) T (productOfRoots (suc n))
+        go m =
+            product-with-marked-locator K (λ i. α ^^ suc i) (λ i. true) T n (productOfRoots n) (productOfRoots (suc n)) refl
+            (let k : count (λ i. true) n ≡ n = count-of-all n in omega arith) m
+            (record {
+              written = λ i l. refl;
+              kept = λ i l.
+                  ap₂ (λ (x y : F). x ⊕ α ^^ suc n ⊗ y) (m .after (suc i) (omega arith)) (m .after i l) ∙ ap (λ (x : F). 𝟘 ⊕ x) (mul-zero K (α ^^ suc n))
+                  ∙ sum-zero 𝟘 ∙ sym (m .after i l);
+            })
+
+    -- the generator of T roots, and 0 behind it
+    abbrev pub generatorOf : ℕ → F
+    generatorOf i = productOfRoots T (0 + i)
+
+    pub is-generator : Generator _⊕_ _⊗_ 𝟘 𝟙 α T generatorOf
+    is-generator = product-of-roots-is-a-generator α T T 0 (productOfRoots T) (omega arith) (is-product T (le-refl T))
+
+    pub generator-ends : (i : ℕ) → T < i → generatorOf i ≡ 𝟘
+    generator-ends i l = is-product T (le-refl T) .after (0 + i) (omega arith)
 
   -- data and remainder together
   pub data-with-remainder-are-a-codeword : (α : F) (T : ℕ) (g : ℕ → F) → Generator _⊕_ _⊗_ 𝟘 𝟙 α T g → (d r w : ℕ → F) (k : ℕ)

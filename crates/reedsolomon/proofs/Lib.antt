@@ -19,13 +19,13 @@ pub mod Decoding
 pub mod Finding
 pub mod Answers
 pub mod Fill
+pub mod Below
+pub mod PowerTable
 pub mod Generators
-pub mod Tables
 pub mod Remainders
 pub mod Lanes
 pub mod Marks
 pub mod Rows
-pub mod Locators
 pub mod ErasedColumns
 pub mod Correcting
 pub mod Deciding

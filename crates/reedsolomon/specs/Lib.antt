@@ -9,4 +9,5 @@ pub mod Listing
 pub mod Decoding
 pub mod Search
 pub mod Row
+pub mod PowerTable
 pub mod Steps

@@ -48,11 +48,6 @@ module _ (m g : ℕ) where
   abbrev pub Element : ℕ → Type 0
   Element a = a < 2 ^ m
 
-  -- a list with the generator of T roots, the highest coefficient first, and 0 behind it
-  pub record HasGenerator (T : ℕ) (a : List ℕ) : Type 0 where
-    pub generator : Generator add (mul m g) 0 1 α T (symbol a)
-    pub ended : (i : ℕ) → T < i → symbol a i ≡ 0
-
   -- r is the remainder of the first n data d by a generator of T roots
   pub record IsRemainder (T : ℕ) (d : List ℕ) (n : ℕ) (r : List ℕ) : Type 0 where
     pub divisor : ℕ → ℕ

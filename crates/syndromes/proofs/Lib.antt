@@ -1,3 +1,4 @@
 pub mod Packed
 pub mod Multiples
 pub mod Tables
+pub mod Reversal

@@ -20,7 +20,7 @@ use Rattle.reedsolomon.specs.Steps.{Written, IsRemainder}
 use Rattle.reedsolomon.proofs.FieldFacts.{mul-zero, sum-mul}
 use Rattle.reedsolomon.proofs.Encoding.{division-of-no-data, division-of-one-symbol-more}
 use Rattle.reedsolomon.proofs.Remainders.{zeros-at}
-use Rattle.syndromes.specs.Packed.{symbolIn, joined, SmallWords, multipleAt, multipleOf, HasMultiples}
+use Rattle.syndromes.specs.Packed.{symbolIn, joined, SmallWords, multipleAt, multipleOf, coefficientIn, HasMultiples}
 use Rattle.syndromes.proofs.Packed.{symbol-of-sum, first-symbol, symbol-behind, joined-sum}
 
 -- ---- multiples
@@ -67,7 +67,7 @@ module _ (g : List ℕ) (small : SmallWords g) where
 
 module _ (T : ℕ) (g : List ℕ) (h : HasMultiples T g) where
   abbrev coefficient : ℕ → ℕ
-  coefficient = symbol (h .coefficients)
+  coefficient = coefficientIn g
 
   -- f times the coefficient i + 1 is the symbol i of f times the generator
   product-symbol : (f i : ℕ) → f < 2 ^ 6 → i < 30 → symbolIn (multipleOf g f) i ≡ mul 6 67 f (coefficient (suc i))
@@ -82,17 +82,17 @@ module _ (T : ℕ) (g : List ℕ) (h : HasMultiples T g) where
 
   pub no-data : (d : List ℕ) → DividedTo d 0 0
   unfolding symbolIn
-  no-data d = division-of-no-data field64 T coefficient (h .generator .generator .monic) (symbol d) (symbolIn 0) (λ j. ap (λ (t : ℕ). t % 2 ^ 6) (zero-div (2 ^ (6 * j))))
+  no-data d = division-of-no-data field64 T coefficient (h .generator .monic) (symbol d) (symbolIn 0) (λ j. ap (λ (t : ℕ). t % 2 ^ 6) (zero-div (2 ^ (6 * j))))
 
   pub one-symbol-more : T ≤ 30 → (d : List ℕ) (k n n′ : ℕ) → symbol d k < 2 ^ 6 → ((i : ℕ) → 30 ≤ i → symbolIn n′ i ≡ 0) → DividedTo d k n
       → n′ ≡ add (n / 2 ^ 6) (multipleOf g (add (symbol d k) (n % 2 ^ 6))) → DividedTo d (k + 1) n′
   one-symbol-more few d k n n′ hd ends v e =
       subst (λ (x : ℕ). DividedTo d x n′) (sym (add-one k))
-      (division-of-one-symbol-more field64 T coefficient (h .generator .generator .monic) (symbol d) (symbolIn n) (symbolIn n′) k hd v
+      (division-of-one-symbol-more field64 T coefficient (h .generator .monic) (symbol d) (symbolIn n) (symbolIn n′) k hd v
       (record {
         written = λ i l. ⊎-elim (stepped i) (λ u. absurd (omega arith)) (lt-or-le i 30);
         kept = λ i l. ⊎-elim
-            (λ u. stepped i u ∙ ap₂ (λ (x y : ℕ). add x (mul 6 67 f y)) (v .ended (suc i) (omega arith)) (h .generator .ended (suc i) (omega arith))
+            (λ u. stepped i u ∙ ap₂ (λ (x y : ℕ). add x (mul 6 67 f y)) (v .ended (suc i) (omega arith)) (h .ended (suc i) (omega arith))
             ∙ ap (add 0) (mul-zero field64 f) ∙ add-zero-l 0)
             (ends i) (lt-or-le i 30) ∙ sym (v .ended i l);
       }))
@@ -113,7 +113,7 @@ module _ (T : ℕ) (g : List ℕ) (h : HasMultiples T g) where
   remainder-of-symbols d n r v w =
       record {
         divisor = coefficient;
-        generator = h .generator .generator;
+        generator = h .generator;
         divided = subst (Divided add (mul 6 67) 0 1 (λ a. a < 2 ^ 6) T coefficient (symbol d) (length d)) (fun-ext same) v;
       }
     where

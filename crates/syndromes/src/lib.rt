@@ -2,4 +2,5 @@
 // remainder, of which each symbol changes the whole, stands in three words instead.
 pub mod encoder;
 pub mod lists;
+pub mod powers;
 pub mod syndrome;

@@ -1,5 +1,6 @@
 // The syndromes as power sums: sixteen columns at a time, each symbol times its locator once more for each syndrome.
 use crate::lists;
+use crate::powers;
 ghost use mathlib.Core.Path.{_≡_};
 ghost use Prim.Native.Nat.{ℕ, _≤_};
 ghost use lib.ListN.{length};
@@ -8,82 +9,7 @@ ghost use Rattle.field.specs.Element.{mul};
 ghost use Rattle.reedsolomon.specs.Sums.{sum};
 ghost use Rattle.reedsolomon.specs.Words.{Elements};
 ghost use Rattle.reedsolomon.specs.Row.{symbol, Symbols};
-ghost use Rattle.reedsolomon.specs.Steps.{Element, Entries, Written, Padded, locatorAt, locatorSum, Summed, HasSyndromes};
-
-// 01: "The powers α^0 to α^62 stand in a constant table": as the locators of the 63 columns, α^62 first, and then 0, so that there are four blocks of 16.
-const PLACES: [u8; 64] = [
-    33,
-    49,
-    57,
-    61,
-    63,
-    62,
-    31,
-    46,
-    23,
-    42,
-    21,
-    43,
-    52,
-    26,
-    13,
-    39,
-    50,
-    25,
-    45,
-    55,
-    58,
-    29,
-    47,
-    54,
-    27,
-    44,
-    22,
-    11,
-    36,
-    18,
-    9,
-    37,
-    51,
-    56,
-    28,
-    14,
-    7,
-    34,
-    17,
-    41,
-    53,
-    59,
-    60,
-    30,
-    15,
-    38,
-    19,
-    40,
-    20,
-    10,
-    5,
-    35,
-    48,
-    24,
-    12,
-    6,
-    3,
-    32,
-    16,
-    8,
-    4,
-    2,
-    1,
-    0,
-];
-
-// The locators of the columns.
-pub fn locators() -> [u8; 64]
-    ensures { λ r. ⌜ Entries 63 (locatorAt 6 67 63) r ⌝ }
-{
-    PLACES
-}
+ghost use Rattle.reedsolomon.specs.Steps.{Element, Entries, Written, Padded, locatorSum, Summed, HasSyndromes};
 
 // Each of sixteen symbols times its locator.
 fn powered(c: &mut [u8], xs: &[u8])
@@ -142,7 +68,7 @@ pub fn syndromes(w: &[u8], t: usize) -> [u8; 33]
     requires { ⌜ (64 ≤ length (now w)) × (t ≤ 33) × Padded 6 63 (now w) ⌝ }
     ensures { λ r. ⌜ HasSyndromes 6 67 63 t (now (w .entry)) r ⌝ }
 {
-    let all = locators();
+    let all = powers::locators();
     let s = [0u8; 33];
     summed(s, w, &all, 64, t)
 }

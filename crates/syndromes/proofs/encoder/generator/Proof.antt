@@ -1,22 +1,32 @@
--- `syndromes::encoder::generator` meets its contract: each table passes the test of a generator's multiples. Assumes nothing.
+-- `syndromes::encoder::generator` meets its contract: each table passes the tests of a generator's multiples. Assumes nothing.
 use mathlib.Core.Logic.{⊎-elim}
-use Rattle.syndromes.proofs.Tables.{multiples30, multiples12, multiples6, multiples4}
+use lib.Dec.{lit<}
+use Rattle.poly.specs.Polynomial.{add, scale, product, productIn, reduced, remainder, remainderIn}
+use Rattle.field.specs.Element.{mul}
+use Rattle.reedsolomon.specs.Sums.{sum, value}
+use Rattle.reedsolomon.specs.PowerTable.{powersFrom, powerTable}
+use Rattle.syndromes.specs.Packed.{symbolIn, multipleOf, multipleAt, joined, coefficientIn}
+use Rattle.syndromes.proofs.Tables.{has-multiples}
 use Rattle.syndromes.proofs.encoder.generator.Statement.{statement}
 use Rattle.syndromes.proofs.encoder.generator.Tie as tie
 
 returns : tie.Need-returns
-returns c = rw (c .if1 .taken) multiples30
+unfolding coefficientIn symbolIn multipleOf multipleAt joined sum value powerTable powersFrom add scale mul product productIn reduced remainder remainderIn
+returns c = rw (c .if1 .taken) (has-multiples 30 _ (lit< tt) tt tt tt tt)
 
 returns-2 : tie.Need-returns-2
-returns-2 c = rw (c .if2 .taken) multiples12
+unfolding coefficientIn symbolIn multipleOf multipleAt joined sum value powerTable powersFrom add scale mul product productIn reduced remainder remainderIn
+returns-2 c = rw (c .if2 .taken) (has-multiples 12 _ (lit< tt) tt tt tt tt)
 
 returns-3 : tie.Need-returns-3
-returns-3 c = rw (c .if3 .taken) multiples6
+unfolding coefficientIn symbolIn multipleOf multipleAt joined sum value powerTable powersFrom add scale mul product productIn reduced remainder remainderIn
+returns-3 c = rw (c .if3 .taken) (has-multiples 6 _ (lit< tt) tt tt tt tt)
 
 returns-4 : tie.Need-returns-4
+unfolding coefficientIn symbolIn multipleOf multipleAt joined sum value powerTable powersFrom add scale mul product productIn reduced remainder remainderIn
 returns-4 c =
     ⊎-elim (λ e. absurd (c .before .before .if1 .left e))
-    (λ r. ⊎-elim (λ e. absurd (c .before .if2 .left e)) (λ s. ⊎-elim (λ e. absurd (c .if3 .left e)) (λ e. rw e multiples4) s) r)
+    (λ r. ⊎-elim (λ e. absurd (c .before .if2 .left e)) (λ s. ⊎-elim (λ e. absurd (c .if3 .left e)) (λ e. rw e (has-multiples 4 _ (lit< tt) tt tt tt tt)) s) r)
     (c .before .before .before .pre)
 
 pub generator-spec : {M : Type 1} → statement M
