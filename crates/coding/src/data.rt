@@ -5,7 +5,7 @@ ghost use Prim.Native.Nat.{ℕ, _+_, _<_, _≤_};
 ghost use lib.ListN.{length, getD};
 ghost use lib.Seq.{paste};
 ghost use Rattle.reedsolomon.specs.Search.{WordOf};
-ghost use Rattle.concatenated.specs.Format.{shortPage, shortRoots};
+ghost use Rattle.concatenated.specs.Format.{shortPage};
 ghost use Rattle.concatenated.specs.Data.{dataSymbols, dataBytes};
 ghost use Rattle.concatenated.specs.Written.{rowsData};
 
@@ -61,17 +61,6 @@ fn put(row: &[u8; 63], n: usize, at: usize, out: &mut [u8; 200])
     }
 }
 
-// The roots of the levels.
-const ROOTS: [usize; 4] = [30, 12, 6, 4];
-
-// T of a level.
-pub fn roots(level: usize) -> usize
-    requires { ⌜ level < 4 ⌝ }
-    ensures { λ r. ⌜ (r ≡ shortRoots level) × (r ≤ 30) ⌝ }
-{
-    ROOTS[level]
-}
-
 // The data symbols in front of the rows.
 pub fn rows_data(rows: &[[u8; 63]; 4], out: &mut [u8; 200])
     requires { ⌜ (length (now rows) ≡ 4) × (length (now out) ≡ 200) × ((i : ℕ) → i < 4 → length (getD (now rows) i []) ≡ 63) ⌝ }
@@ -81,7 +70,7 @@ pub fn rows_data(rows: &[[u8; 63]; 4], out: &mut [u8; 200])
     let mut level: usize = 0;
     while level < 4 {
         let row = rows[level];
-        let n = 63 - roots(level);
+        let n = 63 - outer::roots(level);
         put(&row, n, at, &mut *out);
         at += n;
         level += 1;

@@ -1,10 +1,9 @@
 -- The short page's data, group by group and row by row. Assumes nothing.
 use mathlib.Core.List.{List, [], _∷_, _++_}
 use mathlib.Core.Path.{_≡_, refl, sym, ap, ap₂, _∙_}
-use Prim.Native.Nat.{ℕ, zero, suc, _+_, _-_, _*_, _≤_, _<_}
+use Prim.Native.Nat.{ℕ, _+_, _-_, _*_, _≤_, _<_}
 use native.Mathlib.Numerals.{add-one}
 use native.Mathlib.Omega.{arith}
-use lib.Dec.{lit≤}
 use lib.ListN.{length, getD, take, set}
 use lib.Seq.{paste, length-paste, take-paste}
 use Rattle.packing.specs.Packing.{joined, symbolsOf, bytesOf}
@@ -57,14 +56,6 @@ bytes-more symbols out g b e h f eb =
     (ap (λ (t : Bytes). t .b2) eb ∙ sym (bytes-at symbols g 2 e h (omega arith)))
 
 -- ---- rows
-
-pub at-most-30-roots : (i : ℕ) → i < 4 → shortRoots i ≤ 30
-unfolding shortRoots
-at-most-30-roots zero h = lit≤ tt
-at-most-30-roots (suc zero) h = lit≤ tt
-at-most-30-roots (suc (suc zero)) h = lit≤ tt
-at-most-30-roots (suc (suc (suc zero))) h = lit≤ tt
-at-most-30-roots (suc (suc (suc (suc i)))) h = absurd (omega arith)
 
 -- the data of a row are within the 200 symbols
 pub row-data-within-200 : (i : ℕ) → i < 4 → dataBefore shortPage i + (63 - shortRoots i) ≤ 200

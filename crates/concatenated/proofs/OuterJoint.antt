@@ -1,7 +1,6 @@
 -- The outer code meets what a page asks of it: the answer is the codeword in reach. Assumes nothing.
 use mathlib.Core.Bool.{Bool, true, false}
 use mathlib.Core.List.{List, [], _∷_, map}
-use mathlib.Core.Logic.{inl, inr}
 use mathlib.Core.Path.{_≡_, refl, ap, ap₂, _∙_, subst, subst⁻¹, fun-ext}
 use Prim.Native.Nat.{ℕ, zero, suc, _<_}
 use native.Mathlib.Decide.{ℕ-discrete}
@@ -12,7 +11,7 @@ use Rattle.field.proofs.Short.{primitive64}
 use Rattle.reedsolomon.specs.Words.{InReach}
 use Rattle.reedsolomon.specs.Search.{WordOf}
 use Rattle.reedsolomon.specs.Row.{symbol, marked, HasInFront, encodedRow}
-use Rattle.reedsolomon.specs.Steps.{RowRoots}
+use Rattle.reedsolomon.proofs.ShortRows.{at-most-30-roots}
 use Rattle.reedsolomon.proofs.Answers.{word-is-of-symbols, answer-if, answer-only-if}
 use Rattle.reedsolomon.proofs.Remainders.{RowOf}
 use Rattle.reedsolomon.proofs.Encoded.{encoded-row-has-data-in-front}
@@ -20,7 +19,6 @@ use Rattle.concatenated.specs.Format.{shortPage, shortRoots, dataCount}
 use Rattle.concatenated.specs.Outer.{isIn, OuterLaws}
 use Rattle.concatenated.specs.Flags.{flag, isOne}
 use Rattle.concatenated.specs.OuterCode.{shortOuter, shortEncoder, ShortCodeword}
-use Rattle.concatenated.proofs.DataGroups.{at-most-30-roots}
 
 -- ---- marks
 
@@ -38,20 +36,12 @@ marked-by-flags : (marks : List Bool) → marked (map flag marks) ≡ isIn marks
 unfolding marked
 marked-by-flags marks = fun-ext (λ j. ap isOne (List·getD-map flag marks j false) ∙ one-of-flag (getD marks j false))
 
-pub roots-of-rows : (i : ℕ) → i < 4 → RowRoots (shortRoots i)
-unfolding shortRoots
-roots-of-rows zero h = inl refl
-roots-of-rows (suc zero) h = inr (inl refl)
-roots-of-rows (suc (suc zero)) h = inr (inr (inl refl))
-roots-of-rows (suc (suc (suc zero))) h = inr (inr (inr refl))
-roots-of-rows (suc (suc (suc (suc i)))) h = absurd (omega arith)
-
 module _ (i : ℕ) (h : i < 4) (d : List ℕ) (word : WordOf 64 (dataCount shortPage i) d) where
   abbrev T : ℕ
   T = shortRoots i
 
   is-encoded : RowOf 6 67 63 T d (encodedRow 6 67 63 T d)
-  is-encoded = encoded-row-has-data-in-front 6 67 63 T primitive64 (lit< tt) d (omega (arith, word .0, at-most-30-roots i h)) (word-is-of-symbols 6 (dataCount shortPage i) d word)
+  is-encoded = encoded-row-has-data-in-front 6 67 63 T primitive64 (lit< tt) d (omega (arith, word .0, at-most-30-roots i)) (word-is-of-symbols 6 (dataCount shortPage i) d word)
 
   encodes-it : ShortCodeword i (shortEncoder i d)
   unfolding shortEncoder

@@ -1,9 +1,8 @@
 -- The short page: 63 columns, roots 30, 12, 6, 4, 150 bytes of data. Assumes nothing.
 use mathlib.Core.List.{List, [], _∷_}
 use mathlib.Core.Path.{_≡_, refl}
-use Prim.Native.Nat.{ℕ, zero, suc, _≤_, _<_}
+use Prim.Native.Nat.{ℕ, zero, suc, _<_}
 use native.Mathlib.Omega.{arith}
-use lib.Dec.{lit≤}
 use lib.ListN.{length}
 use Rattle.column.specs.Shape.{short, generator}
 use Rattle.column.proofs.Short as Column
@@ -12,6 +11,7 @@ use Rattle.trellis.specs.Demand.{Search as Kind, whole, supercode}
 use Rattle.trellis.proofs.Short as Columns
 use Rattle.packing.specs.Packing.{columnBytes}
 use Rattle.concatenated.specs.Lists.{All, total}
+use Rattle.reedsolomon.proofs.ShortRows.{at-most-30-roots}
 use Rattle.concatenated.specs.Format.{SoundFormat, shortPage, shortRoots, dataLength, dataCount, dataBefore}
 use Rattle.concatenated.specs.Outer.{RowDecoder, RowEncoder, OuterLaws}
 use Rattle.concatenated.specs.Data.{digits}
@@ -29,17 +29,9 @@ use Rattle.concatenated.proofs.SoftPages.{as-many-columns, columns-are-
 use Rattle.concatenated.proofs.CleanColumns.{searches-find-the-reading}
 use Rattle.concatenated.proofs.CleanPages as CleanPages
 
-roots-fit : (i : ℕ) → i < 4 → shortRoots i ≤ 63
-unfolding shortRoots
-roots-fit zero h = lit≤ tt
-roots-fit (suc zero) h = lit≤ tt
-roots-fit (suc (suc zero)) h = lit≤ tt
-roots-fit (suc (suc (suc zero))) h = lit≤ tt
-roots-fit (suc (suc (suc (suc i)))) h = absurd (omega arith)
-
 pub short-page-sound : SoundFormat shortPage
 unfolding dataBefore shortRoots
-short-page-sound = record { shape-sound = Column.sound; roots-fit = roots-fit; packs = refl; holds = refl }
+short-page-sound = record { shape-sound = Column.sound; roots-fit = λ i h. omega (arith, at-most-30-roots i); packs = refl; holds = refl }
 
 -- 01: "The first 33, 51, 57, 59 columns hold data", "150 bytes: 200 symbols"
 pub short-page-numbers : (dataCount shortPage 0 ≡ 33) × (dataCount shortPage 1 ≡ 51) × (dataCount shortPage 2 ≡ 57) × (dataCount shortPage 3 ≡ 59) × (dataLength shortPage ≡ 150) × (dataBefore shortPage 4 ≡ 200)

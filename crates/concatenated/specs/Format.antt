@@ -1,9 +1,8 @@
 -- The numbers of a page: its columns, its rows and the packing of its data. Assumes nothing.
 use mathlib.Core.Path.{_≡_}
-use mathlib.Core.List.{[], _∷_}
 use Prim.Native.Nat.{ℕ, zero, suc, _+_, _-_, _*_, _^_, _≤_, _<_}
-use lib.ListN.{getD}
 use Rattle.column.specs.Shape.{Shape, Sound, levels, short}
+unfoldable pub use Rattle.reedsolomon.specs.ShortRows.{shortRoots}
 
 pub record Format : Type 0 where
   -- the column codes, one a level
@@ -46,10 +45,6 @@ pub record SoundFormat (P : Format) : Type 0 where
   pub holds : dataBefore P (levels (P .shape)) ≡ P .groups * P .groupSymbols
 
 -- ---- the short page
-
--- 01: "T = 30, 12, 6, 4"
-unfoldable pub shortRoots : ℕ → ℕ
-shortRoots i = getD (30 ∷ 12 ∷ 6 ∷ 4 ∷ []) i 0
 
 -- 01: 63 columns; 150 bytes of data, three bytes to four symbols; four bytes a column
 abbrev pub shortPage : Format

@@ -5,7 +5,8 @@ ghost use Rattle.trellis.specs.Demand.{whole, supercode};
 ghost use Rattle.store_searches.specs.Searches.{searchAnswer};
 ghost use Rattle.reedsolomon.specs.Row.{outerAnswer, encodedRow, wordOf};
 ghost use Rattle.dump.specs.Dump.{dumpOf, softOf};
-ghost use Rattle.store_rows.specs.Rows.{rootsOf, encodeRowAnswer, decodeRowAnswer};
+ghost use Rattle.reedsolomon.specs.ShortRows.{shortRoots};
+ghost use Rattle.store_rows.specs.Rows.{encodeRowAnswer, decodeRowAnswer};
 ghost use Rattle.store_dumps.specs.Dumps.{writeAnswer, readAnswer};
 ghost use Rattle.entries.specs.Told.{toldOf, foundOf, replyOf, Replied, pageReplyOf, PageReplied};
 ghost use Prim.Native.Nat.{_*_, _<_};
@@ -130,7 +131,7 @@ fn numbers_of_outcome(outcome: Outcome) -> Reply
 
 #[no_mangle]
 pub extern "C" fn entry_encode_row(level: u64, data: &[u8], out: &mut [u8]) -> Reply
-    ensures { λ r. ⌜ Replied (encodeRowAnswer level (now («data» .entry)) (now (out .entry))) (encodedRow 6 67 63 (rootsOf level) (now («data» .entry))) (now (out .entry)) r (now (out .exit)) ⌝ }
+    ensures { λ r. ⌜ Replied (encodeRowAnswer level (now («data» .entry)) (now (out .entry))) (encodedRow 6 67 63 (shortRoots level) (now («data» .entry))) (now (out .entry)) r (now (out .exit)) ⌝ }
 {
     numbers_of_outcome(store_rows::encode_row(level, data, out))
 }
@@ -143,7 +144,7 @@ pub extern "C" fn entry_decode_row(
     out: &mut [u8],
 ) -> Reply
     ensures { λ r. ⌜ Replied (decodeRowAnswer level (now (symbols .entry)) (now (marks .entry)) (now (out .entry)))
-        (wordOf (now (out .entry)) (outerAnswer 6 67 63 (rootsOf level) (now (symbols .entry)) (now (marks .entry)))) (now (out .entry)) r (now (out .exit)) ⌝ }
+        (wordOf (now (out .entry)) (outerAnswer 6 67 63 (shortRoots level) (now (symbols .entry)) (now (marks .entry)))) (now (out .entry)) r (now (out .exit)) ⌝ }
 {
     numbers_of_outcome(store_rows::decode_row(level, symbols, marks, out))
 }

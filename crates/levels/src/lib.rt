@@ -9,7 +9,6 @@ ghost use Rattle.concatenated.specs.Readers.{shortReader};
 ghost use Rattle.concatenated.specs.Arrays.{SoftColumns};
 ghost use Rattle.search.specs.Outcomes.{searchOf};
 ghost use Rattle.levels.specs.Levels.{LevelDone, ColumnsDone};
-use coding::data;
 use softpage::rows;
 
 // What a level gives: its row, the flags of its changed and erased columns, its steps; or no word was in reach.
@@ -57,7 +56,7 @@ fn decode_level(
         &mut marks,
     );
     let mut row = [0u8; 63];
-    let settled = outer::decode(&symbols, &marks, data::roots(level), &mut row);
+    let settled = outer::decode(&symbols, &marks, outer::roots(level), &mut row);
     if settled {
         let changed = rows::changed_columns(&symbols, &marks, &row);
         rows::take_off(&mut *work, level, &row);

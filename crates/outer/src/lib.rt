@@ -1,14 +1,25 @@
 // The outer code of the short page: 01, "Rows and page". A row is a Reed-Solomon word of 63 symbols over the field of 64 elements.
 // The answers are defined in reedsolomon's specs/Row.antt; the theory there holds for every field of characteristic 2.
 ghost use mathlib.Core.Path.{_≡_};
-ghost use Prim.Native.Nat.{_+_, _≤_};
+ghost use Prim.Native.Nat.{_+_, _≤_, _<_};
 ghost use lib.ListN.{length};
 ghost use Rattle.reedsolomon.specs.Row.{Symbols, outerAnswer, encodedRow, RowDecoded};
-ghost use Rattle.reedsolomon.specs.Steps.{RowRoots};
+ghost use Rattle.reedsolomon.specs.ShortRows.{shortRoots, RowRoots};
 use locator::erasure;
 use syndromes::encoder;
 use syndromes::lists;
 use syndromes::syndrome;
+
+// 01: "T = 30, 12, 6, 4".
+const ROOTS: [usize; 4] = [30, 12, 6, 4];
+
+// The number of roots of a level's row.
+pub fn roots(level: usize) -> usize
+    requires { ⌜ level < 4 ⌝ }
+    ensures { λ r. ⌜ (r ≡ shortRoots level) × (r ≤ 30) ⌝ }
+{
+    ROOTS[level]
+}
 
 // The codeword that has the data in front.
 pub fn encode(data: &[u8], t: usize, out: &mut [u8])

@@ -16,7 +16,7 @@ use Rattle.concatenated.specs.OuterCode.{shortOuter, shortEncoder, ShortCodewor
 use Rattle.concatenated.proofs.Lists.{listed-length, listed-at}
 use Rattle.concatenated.proofs.Encoding.{written-data-is-a-word, written-row-is-a-word}
 use Rattle.concatenated.proofs.Short.{short-page-sound}
-use Rattle.concatenated.proofs.DataGroups.{at-most-30-roots}
+use Rattle.reedsolomon.proofs.ShortRows.{at-most-30-roots}
 use Rattle.concatenated.proofs.OuterJoint.{outer-laws}
 
 module _ (bytes : List ℕ) where
@@ -33,7 +33,7 @@ module _ (bytes : List ℕ) where
           ap₂ (λ (k a : ℕ). take k (drop a symbols)) n ea ∙ ap (λ (x : List ℕ). take (63 - shortRoots i) (drop (dataBefore shortPage i) x)) es
 
       pub part-and-roots : length (take (at + (63 - t) - at) (drop at symbols)) + t ≡ 63
-      part-and-roots = omega (arith, ap length part-is ∙ word .0, et, at-most-30-roots i h)
+      part-and-roots = omega (arith, ap length part-is ∙ word .0, et, at-most-30-roots i)
 
       pub part-is-of-symbols : Symbols 6 (take (at + (63 - t) - at) (drop at symbols))
       part-is-of-symbols = subst⁻¹ (Symbols 6) part-is (word-is-of-symbols 6 (dataCount shortPage i) (rowData shortPage (dataSymbols shortPage bytes) i) word)

@@ -50,7 +50,7 @@ fn encode_rows(data: &[u8], rows: &mut [[u8; 63]; 4])
     let mut at: usize = 0;
     let mut level: usize = 0;
     while level < 4 {
-        let t = data::roots(level);
+        let t = outer::roots(level);
         let end = at + (63 - t);
         let mut row = [0u8; 63];
         outer::encode(&symbols[at..end], t, &mut row);

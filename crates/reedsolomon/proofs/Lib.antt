@@ -22,6 +22,7 @@ pub mod Fill
 pub mod Below
 pub mod PowerTable
 pub mod Generators
+pub mod ShortRows
 pub mod Remainders
 pub mod Lanes
 pub mod Marks

@@ -11,7 +11,7 @@ use Rattle.field.specs.Element.{mul, α, Primitive}
 use Rattle.reedsolomon.specs.Words.{Codeword}
 use Rattle.reedsolomon.specs.Search.{WordOf}
 use Rattle.reedsolomon.specs.Row.{symbol, Symbols, IsCodeword, HasInFront, encodedRow}
-use Rattle.reedsolomon.specs.Steps.{WrittenAt, RowRoots, IsRemainder}
+use Rattle.reedsolomon.specs.Steps.{WrittenAt, IsRemainder}
 use Rattle.reedsolomon.proofs.Encoding.{data-with-remainder-are-a-codeword}
 use Rattle.reedsolomon.proofs.Answers.{K, encoded-row-if}
 
@@ -51,6 +51,3 @@ module _ (m g N T : ℕ) (t : Primitive m g) (few : N < 2 ^ m) (d r out once twi
   pub row-of-data-and-remainder : twice ≡ encodedRow m g N T d
   row-of-data-and-remainder =
       sym (encoded-row-if m g N T t few d twice (omega arith) (data-and-remainder .0) (data-and-remainder .1) (data-and-remainder .2))
-
-pub row-roots-bounded : (t : ℕ) → RowRoots t → t ≤ 30
-row-roots-bounded t h = ⊎-elim (λ e. omega arith) (λ r. ⊎-elim (λ e. omega arith) (λ s. ⊎-elim (λ e. omega arith) (λ e. omega arith) s) r) h

@@ -10,4 +10,5 @@ pub mod Decoding
 pub mod Search
 pub mod Row
 pub mod PowerTable
+pub mod ShortRows
 pub mod Steps

@@ -39,10 +39,6 @@ pub record Padded (m N : ℕ) (w : List ℕ) : Type 0 where
   pub inside : Symbols m w
   pub ended : (j : ℕ) → N ≤ j → symbol w j ≡ 0
 
--- 01: "T = 30, 12, 6, 4"
-abbrev pub RowRoots : ℕ → Type 0
-RowRoots t = (t ≡ 30) ⊎ ((t ≡ 12) ⊎ ((t ≡ 6) ⊎ (t ≡ 4)))
-
 module _ (m g : ℕ) where
   -- an element of the field
   abbrev pub Element : ℕ → Type 0

@@ -2,25 +2,10 @@
 ghost use mathlib.Core.Path.{_≡_};
 ghost use Prim.Native.Nat.{_<_};
 ghost use Rattle.reedsolomon.specs.Row.{outerAnswer, encodedRow, wordOf};
+ghost use Rattle.reedsolomon.specs.ShortRows.{shortRoots};
 ghost use Rattle.questions.specs.Outcome.{Filled};
-ghost use Rattle.store_rows.specs.Rows.{rootsOf, lengthRight, encodeRowAnswer, decodeRowAnswer};
+ghost use Rattle.store_rows.specs.Rows.{lengthRight, encodeRowAnswer, decodeRowAnswer};
 use questions::Outcome;
-
-// The number of roots of a level's row.
-fn roots(level: u64) -> usize
-    ensures { λ r. ⌜ r ≡ rootsOf level ⌝ }
-{
-    if level == 0 {
-        return 30;
-    }
-    if level == 1 {
-        return 12;
-    }
-    if level == 2 {
-        return 6;
-    }
-    4
-}
 
 // Whether a row's data have the length stated for their level; for a level above 3 none is stated.
 fn length_right(level: u64, n: usize) -> bool
@@ -29,12 +14,12 @@ fn length_right(level: u64, n: usize) -> bool
     if 4 <= level {
         return true;
     }
-    n == 63 - roots(level)
+    n == 63 - outer::roots(level as usize)
 }
 
 // The row of 63 symbols with the data in front. Refused by 1, 2, 3 and 5; `out` is then as it was.
 pub fn encode_row(level: u64, data: &[u8], out: &mut [u8]) -> Outcome
-    ensures { λ r. ⌜ Filled (encodeRowAnswer level (now («data» .entry)) (now (out .entry))) (encodedRow 6 67 63 (rootsOf level) (now («data» .entry))) (now (out .entry)) r (now (out .exit)) ⌝ }
+    ensures { λ r. ⌜ Filled (encodeRowAnswer level (now («data» .entry)) (now (out .entry))) (encodedRow 6 67 63 (shortRoots level) (now («data» .entry))) (now (out .entry)) r (now (out .exit)) ⌝ }
 {
     if !length_right(level, data.len()) {
         return Outcome::Refused(1, 0);
@@ -49,7 +34,7 @@ pub fn encode_row(level: u64, data: &[u8], out: &mut [u8]) -> Outcome
     if bad < data.len() {
         return Outcome::Refused(5, bad as u64);
     }
-    let t = roots(level);
+    let t = outer::roots(level as usize);
     outer::encode(data, t, out);
     Outcome::Done
 }
@@ -57,7 +42,7 @@ pub fn encode_row(level: u64, data: &[u8], out: &mut [u8]) -> Outcome
 // The codeword in reach of 63 symbols and 63 marks. Refused by 1, 2, 3, 5 and 10; `out` is then as it was.
 pub fn decode_row(level: u64, symbols: &[u8], marks: &[u8], out: &mut [u8]) -> Outcome
     ensures { λ r. ⌜ Filled (decodeRowAnswer level (now (symbols .entry)) (now (marks .entry)) (now (out .entry)))
-        (wordOf (now (out .entry)) (outerAnswer 6 67 63 (rootsOf level) (now (symbols .entry)) (now (marks .entry)))) (now (out .entry)) r (now (out .exit)) ⌝ }
+        (wordOf (now (out .entry)) (outerAnswer 6 67 63 (shortRoots level) (now (symbols .entry)) (now (marks .entry)))) (now (out .entry)) r (now (out .exit)) ⌝ }
 {
     if symbols.len() != 63 {
         return Outcome::Refused(1, 0);
@@ -79,7 +64,7 @@ pub fn decode_row(level: u64, symbols: &[u8], marks: &[u8], out: &mut [u8]) -> O
     if mark < 63 {
         return Outcome::Refused(5, 63 + mark as u64);
     }
-    let t = roots(level);
+    let t = outer::roots(level as usize);
     if outer::decode(symbols, marks, t, out) {
         return Outcome::Done;
     }

@@ -4,7 +4,8 @@ ghost use Prim.Native.Nat.{_+_, _/_, _%_, _^_, _≤_};
 ghost use lib.ListN.{length, replicate};
 ghost use Rattle.poly.specs.Polynomial.{add, scale};
 ghost use Rattle.reedsolomon.specs.Row.{Symbols};
-ghost use Rattle.reedsolomon.specs.Steps.{Written, RowRoots, IsRemainder};
+ghost use Rattle.reedsolomon.specs.ShortRows.{RowRoots};
+ghost use Rattle.reedsolomon.specs.Steps.{Written, IsRemainder};
 ghost use Rattle.syndromes.specs.Packed.{symbolIn, numberOf, Full, SmallWords, multipleAt, multipleOf, HasMultiples};
 
 // Three words of ten symbols.

@@ -4,7 +4,8 @@ use Prim.Native.Nat.{_≤_}
 use lib.ListN.{length}
 use lib.Dec.{lit<}
 use Rattle.field.proofs.Short.{primitive64}
-use Rattle.reedsolomon.proofs.Remainders.{row-roots-bounded, row-of-data-and-remainder}
+use Rattle.reedsolomon.proofs.ShortRows.{row-roots-bounded}
+use Rattle.reedsolomon.proofs.Remainders.{row-of-data-and-remainder}
 use native.Mathlib.Omega.{arith}
 use borrow.Author.Needs.{needs}
 use Rattle.outer.proofs.encode.Statement.{statement}

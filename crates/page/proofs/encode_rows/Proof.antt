@@ -1,16 +1,14 @@
 -- `page::encode_rows` meets its contract: the rows below the level are written, and the next data symbols begin behind theirs. Assumes nothing.
-use mathlib.Core.Path.{_≡_, refl, ap, _∙_, subst, subst⁻¹}
+use mathlib.Core.Path.{_≡_, refl, ap, _∙_}
 use Prim.Native.Nat.{_-_}
 use Rattle.concatenated.proofs.Filling.{Front, front-none, front-more, front-all}
 use mathlib.Core.List.{[]}
 use lib.ListN.{length}
 use Rattle.concatenated.proofs.Digits.{repacked-length}
-use Rattle.reedsolomon.specs.Steps.{RowRoots}
 use Rattle.concatenated.specs.Format.{shortPage, dataBefore}
 use Rattle.concatenated.specs.Written.{writtenRows}
 use Rattle.concatenated.specs.OuterCode.{shortEncoder}
 use Rattle.concatenated.proofs.DataGroups.{row-data-within-200}
-use Rattle.concatenated.proofs.OuterJoint.{roots-of-rows}
 use Rattle.page.proofs.RowEncoding.{four-rows, part-and-roots, part-is-of-symbols, row-written, next-place}
 use native.Mathlib.Omega.{arith}
 use borrow.Author.Needs.{needs}
@@ -60,7 +58,7 @@ encode-requires c κs =
     let h = c .before .before .before .before .loop-test .taken in
     let t = c .before .before .before .roots .ensures .0 in
     let level = turn .loop .level in
-    (subst⁻¹ RowRoots t (roots-of-rows level h), part-and-roots bytes level h _ (made .symbols-of .ensures) _ _ (turn .loop .inv .1) t, part-is-of-symbols bytes level h _ (made .symbols-of .ensures) _ _ (turn .loop .inv .1) t, refl)
+    (record { level = level; level-exists = h; is-its = t }, part-and-roots bytes level h _ (made .symbols-of .ensures) _ _ (turn .loop .inv .1) t, part-is-of-symbols bytes level h _ (made .symbols-of .ensures) _ _ (turn .loop .inv .1) t, refl)
 
 mul-t12 : tie.Need-mul-t12 Inv-loop μ-loop
 mul-t12 c = search needs

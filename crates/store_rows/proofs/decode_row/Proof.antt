@@ -4,7 +4,7 @@ use Prim.Native.Nat.{ℕ, _≤_, _<_}
 use borrow.Author.Tests.{le-ltb, lt-ltb, le-leb, lt-leb, eq-eqb, ne-eqb}
 use Rattle.reedsolomon.specs.Row.{outerAnswer, wordOf, isFound}
 use Rattle.questions.specs.Questions.{firstAbove}
-use Rattle.store_rows.proofs.RowRanges.{roots-most, symbols-in-range, none-written}
+use Rattle.store_rows.proofs.RowRanges.{symbols-in-range, none-written}
 use Rattle.questions.proofs.Filled.{refused, refused-unwritten, done}
 use borrow.Author.Needs.{needs}
 use Rattle.store_rows.proofs.decode_row.Statement.{statement}
@@ -66,7 +66,7 @@ decode-requires c κs =
       asked .before .before .if2 .left,
       asked .before .if3 .left,
       symbols-in-range symbols (subst (λ (t : ℕ). t ≤ firstAbove symbols 63) (sym (asked .before .before .before .if1 .left)) right),
-      subst (λ (t : ℕ). t ≤ 30) (sym (roots .roots .ensures)) (roots-most (start .args .level)),
+      roots .roots .ensures .1,
     )
 
 same-length : tie.Need-same-length
@@ -82,7 +82,7 @@ returns-7 c =
     let symbols = start .args .symbols .now in
     let marks = start .args .marks .now in
     let decoded = c .before .before .before .decode in
-    let same = ap (λ (t : ℕ). outerAnswer 6 67 63 t symbols marks) (roots .roots .ensures) in
+    let same = ap (λ (t : ℕ). outerAnswer 6 67 63 t symbols marks) (roots .roots .ensures .0) in
     let right : 63 ≤ firstAbove symbols 63 = rw (good .before .first-above .ensures) at (good .if5 .left) in
     let flags : 63 ≤ firstAbove marks 1 = rw (last .before .first-above2 .ensures) at (last .if6 .left) in
     let told = sym (ap isFound same) ∙ sym (decoded .ensures .told) ∙ c .if7 .taken in
@@ -102,7 +102,7 @@ returns-8 c =
     let symbols = start .args .symbols .now in
     let marks = start .args .marks .now in
     let decoded = c .before .before .before .decode in
-    let same = ap (λ (t : ℕ). outerAnswer 6 67 63 t symbols marks) (roots .roots .ensures) in
+    let same = ap (λ (t : ℕ). outerAnswer 6 67 63 t symbols marks) (roots .roots .ensures .0) in
     let right : 63 ≤ firstAbove symbols 63 = rw (good .before .first-above .ensures) at (good .if5 .left) in
     let flags : 63 ≤ firstAbove marks 1 = rw (last .before .first-above2 .ensures) at (last .if6 .left) in
     let told = sym (ap isFound same) ∙ sym (decoded .ensures .told) ∙ c .if7 .left in

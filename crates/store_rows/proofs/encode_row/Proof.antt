@@ -1,12 +1,11 @@
 -- `store_rows::encode_row` meets its contract: each return rewrites with the tests that led there. Assumes nothing.
-use mathlib.Core.Path.{_≡_, sym, ap, _∙_, subst}
+use mathlib.Core.Path.{_≡_, sym, ap, _∙_}
 use Prim.Native.Nat.{ℕ, _+_, _≤_, _<_}
 use borrow.Author.Tests.{le-ltb, lt-ltb, le-leb, lt-leb, eq-eqb, ne-eqb, not-true, not-false}
 use lib.ListN.{length}
 use Rattle.reedsolomon.specs.Row.{encodedRow}
-use Rattle.reedsolomon.specs.Steps.{RowRoots}
 use Rattle.questions.specs.Questions.{firstAbove}
-use Rattle.store_rows.proofs.RowRanges.{row-roots, row-length, symbols-in-range}
+use Rattle.store_rows.proofs.RowRanges.{row-length, symbols-in-range}
 use Rattle.questions.proofs.Filled.{refused, done}
 use borrow.Author.Needs.{needs}
 use Rattle.store_rows.proofs.encode_row.Statement.{statement}
@@ -54,8 +53,8 @@ encode-requires c κs =
     let row = start .args .«data» .now in
     let level = start .args .level in
     let right : length row ≤ firstAbove row 63 = rw (good .before .first-above .ensures) at (good .if4 .left) in (
-      subst RowRoots (sym (roots .roots .ensures)) (row-roots level),
-      ap (λ (t : ℕ). length row + t) (roots .roots .ensures) ∙ row-length level (length row) (asked .if3 .left) (sym (told .ensures) ∙ not-false (told .result) (asked .before .before .if1 .left)),
+      record { level = level; level-exists = asked .if3 .left; is-its = roots .roots .ensures .0 },
+      ap (λ (t : ℕ). length row + t) (roots .roots .ensures .0) ∙ row-length level (length row) (asked .if3 .left) (sym (told .ensures) ∙ not-false (told .result) (asked .before .before .if1 .left)),
       symbols-in-range row right,
       asked .before .if2 .left,
     )
@@ -73,7 +72,7 @@ returns-5 c =
     let right : length row ≤ firstAbove row 63 = rw (good .before .first-above .ensures) at (good .if4 .left) in
     done
     (simp (sym (told .ensures) ∙ not-false (told .result) (asked .before .before .if1 .left), eq-eqb _ _ (asked .before .if2 .left), lt-ltb _ _ (asked .if3 .left), le-leb _ _ right))
-    (c .before .before .encode .ensures ∙ ap (λ (t : ℕ). encodedRow 6 67 63 t row) (roots .roots .ensures))
+    (c .before .before .encode .ensures ∙ ap (λ (t : ℕ). encodedRow 6 67 63 t row) (roots .roots .ensures .0))
 
 pub encode-row-spec : {M : Type 1} → statement M
 encode-row-spec =

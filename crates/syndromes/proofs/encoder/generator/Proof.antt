@@ -1,10 +1,10 @@
 -- `syndromes::encoder::generator` meets its contract: each table passes the tests of a generator's multiples. Assumes nothing.
-use mathlib.Core.Logic.{⊎-elim}
 use lib.Dec.{lit<}
 use Rattle.poly.specs.Polynomial.{add, scale, product, productIn, reduced, remainder, remainderIn}
 use Rattle.field.specs.Element.{mul}
 use Rattle.reedsolomon.specs.Sums.{sum, value}
 use Rattle.reedsolomon.specs.PowerTable.{powersFrom, powerTable}
+use Rattle.reedsolomon.proofs.ShortRows.{only-four-is-left}
 use Rattle.syndromes.specs.Packed.{symbolIn, multipleOf, multipleAt, joined, coefficientIn}
 use Rattle.syndromes.proofs.Tables.{has-multiples}
 use Rattle.syndromes.proofs.encoder.generator.Statement.{statement}
@@ -25,9 +25,8 @@ returns-3 c = rw (c .if3 .taken) (has-multiples 6 _ (lit< tt) tt tt tt tt)
 returns-4 : tie.Need-returns-4
 unfolding coefficientIn symbolIn multipleOf multipleAt joined sum value powerTable powersFrom add scale mul product productIn reduced remainder remainderIn
 returns-4 c =
-    ⊎-elim (λ e. absurd (c .before .before .if1 .left e))
-    (λ r. ⊎-elim (λ e. absurd (c .before .if2 .left e)) (λ s. ⊎-elim (λ e. absurd (c .if3 .left e)) (λ e. rw e (has-multiples 4 _ (lit< tt) tt tt tt tt)) s) r)
-    (c .before .before .before .pre)
+    let e = only-four-is-left _ (c .before .before .before .pre) (c .before .before .if1 .left) (c .before .if2 .left) (c .if3 .left) in
+    rw e (has-multiples 4 _ (lit< tt) tt tt tt tt)
 
 pub generator-spec : {M : Type 1} → statement M
 generator-spec = tie.close (tie.spec returns returns-2 returns-3 returns-4)

@@ -3,7 +3,7 @@ use mathlib.Core.Path.{_≡_, subst}
 use Prim.Native.Nat.{ℕ, _-_, _≤_}
 use lib.ListN.{length}
 use lib.Pow.{pow-pos}
-use Rattle.reedsolomon.proofs.Remainders.{row-roots-bounded}
+use Rattle.reedsolomon.proofs.ShortRows.{row-roots-bounded}
 use Rattle.syndromes.specs.Packed.{joined, numberOf, Full, HasMultiples}
 use Rattle.syndromes.proofs.Packed.{no-symbol-more}
 use Rattle.syndromes.proofs.Multiples.{DividedTo, no-data, one-symbol-more, remainder-of-symbols}
