@@ -25,7 +25,7 @@ module _ (s : Search) (level : ℕ) (soft : List ℕ) (limit : ℕ) (allowed : A
   -- only question 9 is left
   pub asked : searchAnswer s level soft limit ≡ outcomeAnswer (searched (trellis s short values soft level) limit)
   asked =
-      rw (eq-eqb (length soft) 30 (allowed .full), lt-ltb level 4 (allowed .level), le-leb 1 limit (allowed .some), le-leb limit 2000 (allowed .most), no-value-above soft 30 7 (allowed .full) (allowed .range))
+      rw (eq-eqb _ _ (allowed .full), lt-ltb _ _ (allowed .level), le-leb _ _ (allowed .some), le-leb _ _ (allowed .most), no-value-above soft 30 7 (allowed .full) (allowed .range))
 
   -- one codeword is ahead of all others, and the search's paths that are prefixes of it or ahead of it can be listed
   pub one-word-and-its-paths : (w : Path) × AheadOfAll short values soft level w × ((v : Path) → AheadOfAll short values soft level v → v ≡ w) × (ps : List Path) × Lists (Counted s short values soft level w) ps
