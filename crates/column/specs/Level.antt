@@ -1,4 +1,4 @@
--- Level words, the column of a list of symbols, and re-imaging. Assumes nothing.
+-- 01: level words, the column of a list of symbols, and re-imaging. Assumes nothing.
 use mathlib.Core.List.{List}
 use Prim.Native.Nat.{ℕ, zero, suc, _+_, _*_, _-_, _/_, _^_}
 use mathlib.Core.Bool.{Bool}

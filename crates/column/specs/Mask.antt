@@ -1,4 +1,4 @@
--- The test of the next bit: the parity of the bits that a mask takes. Assumes nothing.
+-- For the code's contracts: existence as it is computed, and the test of the next bit by the parity of the bits that a mask takes. Assumes nothing.
 use mathlib.Core.Path.{_≡_}
 use mathlib.Core.Bool.{Bool}
 use Prim.Native.Nat.{ℕ, zero, suc, _+_, _-_, _*_, _/_, _%_, _^_, _<_}
@@ -10,7 +10,7 @@ use lib.Dec.{ltb}
 use Rattle.poly.specs.Polynomial.{remainder}
 use Rattle.column.specs.Shape.{Code}
 
--- whether a path of t bits begins a word of n bits: the bits to come can make up for its remainder
+-- whether a path of t bits begins a word of n bits: the bits to come can make up for its remainder; `begins-exists` and `exists-begins` say that this is 01's existence
 unfoldable pub begins : ℕ → Code → ℕ → ℕ → Bool
 begins n C t p = ltb (remainder (C .degree) (C .generator) (p * 2 ^ (n - t))) (2 ^ (n - t))
 

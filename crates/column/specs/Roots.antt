@@ -1,4 +1,4 @@
--- Which element of the field is a root of a factor. Assumes nothing.
+-- 01: which element of the field is a root of a factor. Assumes nothing.
 use mathlib.Core.Path.{_≡_}
 use Prim.Native.Nat.{ℕ, zero, suc, _/_, _%_}
 use Rattle.poly.specs.Polynomial.{add}

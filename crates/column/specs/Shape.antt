@@ -1,4 +1,4 @@
--- Nested column codes: the codewords of level i are the multiples of its generator. Assumes nothing.
+-- 01: nested column codes; the codewords of level i are the multiples of its generator. Assumes nothing.
 use mathlib.Core.List.{List, [], _∷_}
 use Prim.Native.Nat.{ℕ, zero, suc, _*_, _-_, _^_, _≤_, _<_}
 use lib.ListN.{length, getD}

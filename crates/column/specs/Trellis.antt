@@ -1,4 +1,4 @@
--- Which paths begin a codeword. A path of t bits is a number below 2 ^ t, its first bit on top. Assumes nothing.
+-- 01: which paths begin a codeword. A path of t bits is a number below 2 ^ t, its first bit on top. Assumes nothing.
 use mathlib.Core.Path.{_≡_}
 use Prim.Native.Nat.{ℕ, _-_, _/_, _^_}
 use Rattle.column.specs.Shape.{Code, Word, Shape, levelCode}

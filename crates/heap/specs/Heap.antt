@@ -1,4 +1,4 @@
--- A heap of four children a place: the parent of place j is (j - 1) / 4. Assumes nothing.
+-- For the code's contracts: a heap of four children a place; the parent of place j is (j - 1) / 4. Assumes nothing.
 use Prim.Native.Nat.{ℕ, zero, suc, _+_, _-_, _/_, _<_}
 use mathlib.Core.Path.{_≡_}
 

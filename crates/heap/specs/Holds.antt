@@ -1,4 +1,4 @@
--- A heap that holds what a list in the order holds. Assumes nothing.
+-- For the code's contracts: a heap that holds what a list in the order holds. Assumes nothing.
 use Prim.Native.Nat.{ℕ, _+_}
 use mathlib.Core.List.{List, [], _∷_}
 use mathlib.Core.Path.{_≡_}

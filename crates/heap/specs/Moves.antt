@@ -1,4 +1,4 @@
--- An element on its way through a heap: one place is free for it. Assumes nothing.
+-- For the code's contracts: an element on its way through a heap; one place is free for it. Assumes nothing.
 use Prim.Native.Nat.{ℕ, suc, _+_, _-_, _/_, _≤_, _<_}
 use mathlib.Core.Path.{_≡_}
 use Rattle.heap.specs.Heap.{weigh}

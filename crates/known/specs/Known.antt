@@ -1,4 +1,4 @@
--- 01, "Known values": the cases marked P, in one table. Assumes nothing.
+-- 01: "Known values", the cases marked P, in one table. Assumes nothing.
 use mathlib.Core.Bool.{Bool, true, false}
 use mathlib.Core.List.{List, [], _∷_}
 use mathlib.Core.Path.{_≡_}

@@ -1,4 +1,4 @@
--- A tree within a larger one that has the same full paths; the paths that only the larger one has are dead. Assumes nothing.
+-- 01: dead paths; a tree within a larger one that has the same full paths, and the paths that only the larger one has. Assumes nothing.
 use mathlib.Core.Bool.{Bool, not, _&&_}
 use mathlib.Core.Path.{_≡_}
 use Prim.Native.Nat.{ℕ}

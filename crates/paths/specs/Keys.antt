@@ -1,4 +1,4 @@
--- The same search on keys that stand for paths. It counts the paths taken in place of keeping them. Assumes nothing.
+-- For the code's contracts: the same search on keys that stand for paths. It counts the paths taken in place of keeping them. Assumes nothing.
 use mathlib.Core.Bool.{Bool, cond, _&&_}
 use mathlib.Core.List.{List, [], _∷_}
 use mathlib.Core.Logic.{_⊎_}

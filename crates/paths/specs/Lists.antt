@@ -1,4 +1,4 @@
--- Members, repeats and tests of a list. Assumes nothing.
+-- 01: what a number of paths is: members, repeats and tests of a list. Assumes nothing.
 use mathlib.Core.Bool.{Bool, cond}
 use mathlib.Core.List.{List, [], _∷_}
 use mathlib.Core.Logic.{_↔_, _⊎_}

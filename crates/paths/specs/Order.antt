@@ -1,4 +1,4 @@
--- A strict total order on paths, and which path is ahead of which word. Assumes nothing.
+-- 01: a strict total order on paths, and which path is ahead of which word. Assumes nothing.
 use mathlib.Core.Bool.{Bool, true, cond, not, _&&_}
 use mathlib.Core.List.{[], _∷_}
 use mathlib.Core.Logic.{_⊎_}

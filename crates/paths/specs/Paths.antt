@@ -1,4 +1,4 @@
--- A path is a list of bits, the newest first: its extensions are `b ∷ p`, its prefixes are its tails. Assumes nothing.
+-- 01: a path is a list of bits, here the newest first; its extensions are `b ∷ p`, its prefixes are its tails. Assumes nothing.
 use mathlib.Core.Bool.{Bool, true, false, cond, _||_}
 use mathlib.Core.List.{List, [], _∷_, _++_}
 use Prim.Native.Nat.{ℕ, zero, suc}

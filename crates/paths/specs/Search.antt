@@ -1,4 +1,4 @@
--- The stack search of a tree, step by step. Assumes nothing.
+-- 01: the stack search of a tree, step by step. Assumes nothing.
 use mathlib.Core.Bool.{Bool, true, cond, _&&_}
 use mathlib.Core.List.{List, [], _∷_}
 use Prim.Native.Nat.{ℕ, zero, suc}

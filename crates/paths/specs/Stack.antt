@@ -1,4 +1,4 @@
--- The stack of a search, for nodes of any kind: paths, or what stands for them. Assumes nothing.
+-- 01: the stack of a search, for nodes of any kind: paths, or what stands for them. Assumes nothing.
 use mathlib.Core.Bool.{Bool, true, false, cond}
 use mathlib.Core.List.{List, [], _∷_}
 use mathlib.Core.Path.{_≡_}

@@ -1,4 +1,4 @@
--- A finite binary tree of paths with an order, its full paths, their numbers and the winner among them. Assumes nothing.
+-- 01: the paths that exist for a search, as a finite binary tree with an order; its full paths, their numbers and the winner among them. Assumes nothing.
 use mathlib.Core.Bool.{Bool, true, _&&_, _||_}
 use mathlib.Core.List.{_∷_}
 use mathlib.Core.Path.{_≡_}

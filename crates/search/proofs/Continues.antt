@@ -1,5 +1,5 @@
 -- The loop of the search: where it stands, and what the runs of the specification do from there. Assumes nothing.
-use Prim.Native.Nat.{ℕ, zero, suc, _+_, _-_, _*_, _≤_, _<_}
+use Prim.Native.Nat.{ℕ, suc, _+_, _-_, _*_, _≤_, _<_}
 use native.Mathlib.Omega.{arith}
 use mathlib.Core.Bool.{Bool, true, false, cond, _&&_}
 use mathlib.Core.List.{List, [], _∷_}
@@ -13,7 +13,7 @@ use mir.Syntax.{w16}
 use mir.Val.{SFits, toZ, ofZ}
 use mir.Facts.{toZ-ofZ}
 use Rattle.paths.specs.Stack.{Nodes, extend, grow}
-use Rattle.paths.specs.Search.{answer, spent}
+use Rattle.paths.specs.Search.{answer}
 use Rattle.paths.specs.Keys.{run-keys}
 use Rattle.heap.specs.Heap.{weigh}
 use Rattle.heap.specs.Holds.{weighList, Holds}

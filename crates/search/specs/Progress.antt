@@ -1,4 +1,4 @@
--- Where a search stands, and what its way there was to the list that the heap holds. Assumes nothing.
+-- For the code's contracts: where a search stands, and what its way there was to the list that the heap holds. Assumes nothing.
 use mathlib.Core.Bool.{Bool, cond}
 use mathlib.Core.List.{List}
 use mathlib.Core.Logic.{_⊎_}

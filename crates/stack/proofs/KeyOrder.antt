@@ -1,6 +1,6 @@
 -- Standing before, or being the same: the order of keys as the heap uses it. Assumes nothing.
 use mathlib.Core.Bool.{Bool, true, false, false≢true}
-use mathlib.Core.Logic.{_⊎_, ⊎-elim}
+use mathlib.Core.Logic.{⊎-elim}
 use mathlib.Core.Path.{_≡_, refl, sym, _∙_, subst, subst⁻¹}
 use Rattle.trellis.specs.Keys.{Key, keyBefore}
 use Rattle.stack.specs.Places.{Upto}

@@ -1,4 +1,4 @@
--- The three arrays of a search as one row of keys, and the order of keys as an order of numbers. Assumes nothing.
+-- For the code's contracts: the three arrays of a search as one row of keys, and the order of keys as an order of numbers. Assumes nothing.
 use mathlib.Core.Bool.{false}
 use mathlib.Core.List.{List}
 use mathlib.Core.Path.{_≡_}

@@ -1,4 +1,4 @@
--- The answers of the column searches. Assumes nothing.
+-- 01: the answers of the column searches. Assumes nothing.
 use mathlib.Core.List.{List}
 use mathlib.Core.Path.{_≡_}
 use Prim.Native.Nat.{ℕ, _≤_, _<_}

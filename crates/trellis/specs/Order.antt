@@ -1,4 +1,4 @@
--- The sum of a path and the order of paths. A path is a list of bits, the newest first. Assumes nothing.
+-- 01: the sum of a path and the order of paths. A path is a list of bits, the newest first. Assumes nothing.
 use mathlib.Core.Bool.{Bool, true, false, cond, not, _&&_}
 use mathlib.Core.List.{List, [], _∷_}
 use Prim.Native.Nat.{ℕ, _+_, _*_}

@@ -1,4 +1,4 @@
--- What a soft value gives to a bit. Assumes nothing.
+-- 01: what a soft value gives to a bit. Assumes nothing.
 use mathlib.Core.Bool.{cond}
 use mathlib.Core.List.{List, [], _∷_}
 use Prim.Native.Nat.{ℕ, _-_}

@@ -1,6 +1,6 @@
 -- `extension::advance` meets its contract. By the path's case: full, with no check, dead, or with the one bit that the checks ask for. Assumes nothing.
 use Prim.Native.Nat.{ℕ, _+_, _-_, _*_, _<_}
-use mathlib.Core.Path.{_≡_, refl, sym, _∙_, subst, subst⁻¹}
+use mathlib.Core.Path.{_≡_, refl, sym, _∙_, subst⁻¹}
 use lib.IntN.{ℤ, pos, _+ℤ_}
 use lib.ListN.{getD}
 use mir.Syntax.{w16}
@@ -47,6 +47,15 @@ held-extended : (e : tie.Else1) (t : ℕ) → Held (start e .args .n) (tableExte
 held-extended e t =
     let a = start e in
     held-extension (a .args .n) (a .args .col .now) (a .args .left .now) (a .args .right .now) (a .args .values .now) (a .pre .1 .0) (key (a .args .s) (a .args .l) (a .args .b)) (flag t) (less e) (a .pre .1 .1 .0)
+
+-- where the checks ask for one bit: the place of the path, and that it is a bit
+abbrev checked : tie.After-asked-bit → tie.Else1
+checked ab = ab .before .before .before .before .before .before .before .before .before .before
+
+asked-below : (ab : tie.After-asked-bit) → ab .asked-bit .result < 2
+asked-below ab =
+    let second = ab .before .before .before in
+    omega (arith, ab .asked-bit .ensures, bit-less (second .before .parity-under .result) (second .parity-under2 .result) (second .parity-under2 .ensures .1))
 
 take-next-requires : tie.Need-take-next-requires
 take-next-requires c κs =
@@ -206,49 +215,24 @@ asked-bit-requires c κs = search needs
 
 value-of-requires-2 : tie.Need-value-of-requires-2
 value-of-requires-2 c κs =
-    let cf = c .before .before in
-    let p2 = cf .before in
-    let p1 = p2 .before in
-    let e = p1 .before .before .before .before .before .before in
+    let e = checked c in
     let a = start e in
-    (a .pre .1 .0 .soft (a .args .l) (less e), omega (arith, c .asked-bit .ensures, bit-less (p1 .parity-under .result) (p2 .parity-under2 .result) (p2 .parity-under2 .ensures .1)), a .pre .1 .0 .entries)
+    (a .pre .1 .0 .soft (a .args .l) (less e), asked-below c, a .pre .1 .0 .entries)
 
 add-sb-2 : tie.Need-add-sb-2
-add-sb-2 c =
-    let ab = c .before in
-    let cf = ab .before .before in
-    let p2 = cf .before in
-    let p1 = p2 .before in
-    let e = p1 .before .before .before .before .before .before in
-    let a = start e in
-    let t = ab .asked-bit .result in
-    let ht : t < 2 = omega (arith, ab .asked-bit .ensures, bit-less (p1 .parity-under .result) (p2 .parity-under2 .result) (p2 .parity-under2 .ensures .1)) in
-    sum-fits _ _ (a .fits .s) (record { sfits = c .value-of2 .ok }) (added e _ t ht (c .value-of2 .ensures))
+add-sb-2 c = let e = checked (c .before) in sum-fits _ _ (start e .fits .s) (record { sfits = c .value-of2 .ok }) (added e _ _ (asked-below (c .before)) (c .value-of2 .ensures))
 
 add-cb-2 : tie.Need-add-cb-2
-add-cb-2 c =
-    let ab = c .before in
-    let cf = ab .before .before in
-    let p2 = cf .before in
-    let p1 = p2 .before in
-    let e = p1 .before .before .before .before .before .before in
-    let a = start e in
-    let t = ab .asked-bit .result in
-    let ht : t < 2 = omega (arith, ab .asked-bit .ensures, bit-less (p1 .parity-under .result) (p2 .parity-under2 .result) (p2 .parity-under2 .ensures .1)) in
-    omega (arith, double e, ht)
+add-cb-2 c = omega (arith, double (checked (c .before)), asked-below (c .before))
 
 exchange-requires-2 : tie.Need-exchange-requires-2
 exchange-requires-2 c κs =
     let v3 = c .before .before .before in
     let ab = v3 .before in
-    let cf = ab .before .before in
-    let p2 = cf .before in
-    let p1 = p2 .before in
-    let e = p1 .before .before .before .before .before .before in
+    let e = checked ab in
     let a = start e in
     let t = ab .asked-bit .result in
-    let ht : t < 2 = omega (arith, ab .asked-bit .ensures, bit-less (p1 .parity-under .result) (p2 .parity-under2 .result) (p2 .parity-under2 .ensures .1)) in
-    let kt = extended e (v3 .value-of2 .result) t ht (v3 .value-of2 .ensures) (record { sfits = v3 .value-of2 .ok }) in
+    let kt = extended e (v3 .value-of2 .result) t (asked-below ab) (v3 .value-of2 .ensures) (record { sfits = v3 .value-of2 .ok }) in
     let n = a .args .n in
     let most = a .pre .1 .0 .most in
     (omega (arith, a .pre .0), (a .pre .1 .1 .1 .0, (a .pre .1 .1 .1 .1 .0, (held-small n most _ (a .args .paths) (a .pre .1 .1 .1 .1 .1), good-small n _ most (subst⁻¹ (Good n) kt (held-extended e t .good))))))
@@ -260,11 +244,10 @@ returns-4 c =
     let cf = ab .before .before in
     let p2 = cf .before in
     let p1 = p2 .before in
-    let e = p1 .before .before .before .before .before .before in
+    let e = checked ab in
     let a = start e in
     let t = ab .asked-bit .result in
-    let ht : t < 2 = omega (arith, ab .asked-bit .ensures, bit-less (p1 .parity-under .result) (p2 .parity-under2 .result) (p2 .parity-under2 .ensures .1)) in
-    let kt = extended e (v3 .value-of2 .result) t ht (v3 .value-of2 .ensures) (record { sfits = v3 .value-of2 .ok }) in (
+    let kt = extended e (v3 .value-of2 .result) t (asked-below ab) (v3 .value-of2 .ensures) (record { sfits = v3 .value-of2 .ok }) in (
       c .before .exchange2 .ensures .0,
       advanced-at _ _ _ _ _ _ _ _ _ _ (record { sfits = c .struct-told2 .given .0 .1 })
           (advanced-one (a .args .n) (a .args .col .now) (a .args .left .now) (a .args .right .now) (a .args .values .now) (a .pre .1 .0) (a .args .s) (a .args .l) (a .args .b) (less e) (a .pre .1 .1 .0) _ _ (a .args .paths) (a .pre .1 .1 .1 .1 .1)

@@ -10,6 +10,7 @@ use Rattle.concatenated.specs.Readers.{shortReader}
 use Rattle.search.specs.Outcomes.{searchOf}
 use Rattle.search.proofs.ShortSearch.{column-searchable}
 use Rattle.concatenated.proofs.Lists.{all-at}
+use Rattle.readings.specs.Steps.{asReading}
 use Rattle.readings.proofs.RowReading.{RowFilling, nothing-read, one-more-read, all-read, reads-it, word-in-range, count-within-the-limit, soft-column}
 use native.Mathlib.Omega.{arith}
 use borrow.Author.Needs.{needs}
@@ -21,6 +22,32 @@ Inv-loop work level limit in-supercodes table sums₀ lens₀ bits₀ symbols₀
 
 abbrev μ-loop : tie.MeasureT-loop
 μ-loop work level limit in-supercodes table sums₀ lens₀ bits₀ symbols₀ marks₀ left right sum₀ j₀ sums lens bits symbols marks sum j = 63 - j
+
+-- ---- what the places share
+
+abbrev start : tie.At-loop Inv-loop μ-loop → tie.Start Inv-loop μ-loop
+start turn = turn .before .before .before .before
+
+-- the turn of the loop that a column is searched in
+abbrev turn-of : tie.After-search-column Inv-loop μ-loop → tie.At-loop Inv-loop μ-loop
+turn-of found = found .before .before .before .before .before .before .before .before .before
+
+-- the column's search is its reading
+searched-is : (found : tie.After-search-column Inv-loop μ-loop)
+    → asReading (start (turn-of found) .args .limit) (found .search-column .result)
+    ≡ shortReader (searchOf (start (turn-of found) .args .in-supercodes)) (start (turn-of found) .args .limit) (start (turn-of found) .args .level) (getD (start (turn-of found) .args .work .now) (turn-of found .loop .j) [])
+searched-is found =
+    let made = turn-of found .before .before .before in
+    let a = start (turn-of found) in
+    let kind = searchOf (a .args .in-supercodes) in
+    reads-it kind (a .args .limit) (a .args .level) (a .pre .0) _ (found .search-column .result) (found .search-column .ensures .1 kind (a .args .level) (a .pre .0) (made .masks-of .ensures .0))
+
+-- and counts at most the limit
+count-few : (turn : tie.At-loop Inv-loop μ-loop)
+    → count (shortReader (searchOf (start turn .args .in-supercodes)) (start turn .args .limit) (start turn .args .level) (getD (start turn .args .work .now) (turn .loop .j) [])) ≤ 2000
+count-few turn =
+    let a = start turn in
+    omega (arith, count-within-the-limit (searchOf (a .args .in-supercodes)) (a .args .limit) (a .args .level) (a .pre .0) (getD (a .args .work .now) (turn .loop .j) []), a .pre .1)
 
 masks-of-requires : tie.Need-masks-of-requires Inv-loop μ-loop
 masks-of-requires c κs = search needs
@@ -78,14 +105,8 @@ element-write-marks c = search needs
 add-sum : tie.Need-add-sum Inv-loop μ-loop
 add-sum c =
     let found = c .before .before in
-    let turn = found .before .before .before .before .before .before .before .before .before in
-    let made = turn .before .before .before in
-    let start = made .before in
-    let kind = searchOf (start .args .in-supercodes) in
-    let read = reads-it kind (start .args .limit) (start .args .level) (start .pre .0) _ (found .search-column .result) (found .search-column .ensures .1 kind (start .args .level) (start .pre .0) (made .masks-of .ensures .0)) in
-    let few = count-within-the-limit kind (start .args .limit) (start .args .level) (start .pre .0) (getD (start .args .work .now) (turn .loop .j) []) in
     let j63 = found .before .before .before .before .before .before .before .before .loop-test .taken in
-    record { fits = omega (arith, c .before .enter .ensures .2 ∙ ap count read, few, start .pre .1, turn .loop .inv .0 .few, j63) }
+    record { fits = omega (arith, c .before .enter .ensures .2 ∙ ap count (searched-is found), count-few (turn-of found), turn-of found .loop .inv .0 .few, j63) }
 
 add-j : tie.Need-add-j Inv-loop μ-loop
 add-j c = search needs
@@ -96,16 +117,11 @@ loop-less c = search needs
 loop-again : tie.Need-loop-again Inv-loop μ-loop
 loop-again c =
     let found = c .before .before in
-    let turn = found .before .before .before .before .before .before .before .before .before in
-    let made = turn .before .before .before in
-    let start = made .before in
-    let kind = searchOf (start .args .in-supercodes) in
-    let read = reads-it kind (start .args .limit) (start .args .level) (start .pre .0) _ (found .search-column .result) (found .search-column .ensures .1 kind (start .args .level) (start .pre .0) (made .masks-of .ensures .0)) in
-    let within = count-within-the-limit kind (start .args .limit) (start .args .level) (start .pre .0) (getD (start .args .work .now) (turn .loop .j) []) in
+    let turn = turn-of found in
     let j63 = found .before .before .before .before .before .before .before .before .loop-test .taken in
     let entry = c .before .enter .ensures in
-    let few : c .before .enter .result .count ≤ 2000 = omega (arith, entry .2 ∙ ap count read, within, start .pre .1) in
-    (one-more-read _ _ _ _ _ _ _ _ _ _ _ (turn .loop .inv .0) j63 read (entry .0) (entry .1) (entry .2) few, found .search-column .ensures .0)
+    let few : c .before .enter .result .count ≤ 2000 = omega (arith, entry .2 ∙ ap count (searched-is found), count-few turn) in
+    (one-more-read _ _ _ _ _ _ _ _ _ _ _ (turn .loop .inv .0) j63 (searched-is found) (entry .0) (entry .1) (entry .2) few, found .search-column .ensures .0)
 
 returns : tie.Need-returns Inv-loop μ-loop
 returns c = (all-read _ _ _ _ _ _ _ (c .before .loop .inv .0) (c .loop-test .left), c .before .loop .inv .1)

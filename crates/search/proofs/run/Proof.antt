@@ -23,6 +23,19 @@ Inv-loop sums₀ lens₀ bits₀ n col left right values limit paths₀ count₀
 abbrev μ-loop : tie.MeasureT-loop
 μ-loop sums₀ lens₀ bits₀ n col left right values limit paths₀ count₀ s₀ l₀ b₀ sums lens bits paths count s l b = limit - count
 
+-- ---- what the places share
+
+abbrev start : tie.At-loop Inv-loop μ-loop → tie.Start Inv-loop μ-loop
+start v = v .before .before .before .before .before
+
+-- the sum that the search goes on from fits
+start-fits : (v : tie.At-loop Inv-loop μ-loop) → SFits w16 (start v .args .state .sum)
+start-fits v = record { sfits = v .before .struct-told .given .1 .1 .0 .1 }
+
+-- the turn of the loop that a step was made in
+abbrev turn : tie.After-struct-told2 Inv-loop μ-loop → tie.In-loop Inv-loop μ-loop
+turn st = st .before .before .before .before .before
+
 loop-holds : tie.Need-loop-holds Inv-loop μ-loop
 loop-holds c =
     let a = c .before .before .before .before in
@@ -42,17 +55,14 @@ advance-requires c κs =
 returns : tie.Need-returns Inv-loop μ-loop
 returns c =
     let st = c .before in
-    let av = st .before in
-    let i = av .before .before .before .before in
+    let i = turn st in
     let v = i .before .loop .inv in
-    let told = i .before .before in
-    let a = told .before .before .before .before in
-    let f : SFits w16 (a .args .state .sum) = record { sfits = told .struct-told .given .1 .1 .0 .1 } in
-    let d = advanced-at _ _ _ _ _ _ _ _ _ _ (record { sfits = st .struct-told2 .given .1 .0 .1 }) (av .advance .ensures .1) in (
-      av .advance .ensures .0,
+    let a = start (i .before) in
+    let d = advanced-at _ _ _ _ _ _ _ _ _ _ (record { sfits = st .struct-told2 .given .1 .0 .1 }) (st .before .advance .ensures .1) in (
+      st .before .advance .ensures .0,
       (
         standing-end (a .args .n) (a .args .values .now) (a .args .col .now) (a .args .left .now) (a .args .right .now) (a .args .limit) _ _ _ _ _ _ _ d (v .1) (c .if1 .taken),
-        λ vs tb xs h. reached-by (a .args .n) (a .args .col .now) (a .args .left .now) (a .args .right .now) (a .args .values .now) vs (a .pre .1 .0) tb (a .args .limit) _ _ _ _ _ xs _ _ _ f (record { way = inr (inr (ended (a .args .n) (a .args .values .now) (a .args .col .now) (a .args .left .now) (a .args .right .now) (a .args .limit) _ _ _ _ xs _ _ _ _ _ (i .loop-test .taken) d (v .2 xs h) (c .if1 .taken))) }),
+        λ vs tb xs h. reached-by (a .args .n) (a .args .col .now) (a .args .left .now) (a .args .right .now) (a .args .values .now) vs (a .pre .1 .0) tb (a .args .limit) _ _ _ _ _ xs _ _ _ (start-fits (i .before)) (record { way = inr (inr (ended (a .args .n) (a .args .values .now) (a .args .col .now) (a .args .left .now) (a .args .right .now) (a .args .limit) _ _ _ _ xs _ _ _ _ _ (i .loop-test .taken) d (v .2 xs h) (c .if1 .taken))) }),
       ),
     )
 
@@ -64,17 +74,14 @@ add-count c =
 returns-2 : tie.Need-returns-2 Inv-loop μ-loop
 returns-2 c =
     let st = c .before .before in
-    let av = st .before in
-    let i = av .before .before .before .before in
+    let i = turn st in
     let v = i .before .loop .inv in
-    let told = i .before .before in
-    let a = told .before .before .before .before in
-    let f : SFits w16 (a .args .state .sum) = record { sfits = told .struct-told .given .1 .1 .0 .1 } in
-    let d = advanced-at _ _ _ _ _ _ _ _ _ _ (record { sfits = st .struct-told2 .given .1 .0 .1 }) (av .advance .ensures .1) in (
-      av .advance .ensures .0,
+    let a = start (i .before) in
+    let d = advanced-at _ _ _ _ _ _ _ _ _ _ (record { sfits = st .struct-told2 .given .1 .0 .1 }) (st .before .advance .ensures .1) in (
+      st .before .advance .ensures .0,
       (
         standing-next (a .args .n) (a .args .values .now) (a .args .col .now) (a .args .left .now) (a .args .right .now) (a .args .limit) _ _ _ _ _ _ _ d (v .1),
-        λ vs tb xs h. reached-by (a .args .n) (a .args .col .now) (a .args .left .now) (a .args .right .now) (a .args .values .now) vs (a .pre .1 .0) tb (a .args .limit) _ _ _ _ _ xs _ _ _ f (record { way = inr (inl (answered (a .args .n) (a .args .values .now) (a .args .col .now) (a .args .left .now) (a .args .right .now) (a .args .limit) _ _ _ _ xs _ _ _ _ _ (i .loop-test .taken) d (v .2 xs h) (c .before .if1 .left) (c .if2 .taken))) }),
+        λ vs tb xs h. reached-by (a .args .n) (a .args .col .now) (a .args .left .now) (a .args .right .now) (a .args .values .now) vs (a .pre .1 .0) tb (a .args .limit) _ _ _ _ _ xs _ _ _ (start-fits (i .before)) (record { way = inr (inl (answered (a .args .n) (a .args .values .now) (a .args .col .now) (a .args .left .now) (a .args .right .now) (a .args .limit) _ _ _ _ xs _ _ _ _ _ (i .loop-test .taken) d (v .2 xs h) (c .before .if1 .left) (c .if2 .taken))) }),
       ),
     )
 
@@ -86,14 +93,11 @@ loop-less c =
 loop-again : tie.Need-loop-again Inv-loop μ-loop
 loop-again c =
     let st = c .before .before in
-    let av = st .before in
-    let i = av .before .before .before .before in
+    let i = turn st in
     let v = i .before .loop .inv in
-    let told = i .before .before in
-    let a = told .before .before .before .before in
-    let f : SFits w16 (a .args .state .sum) = record { sfits = told .struct-told .given .1 .1 .0 .1 } in
-    let d = advanced-at _ _ _ _ _ _ _ _ _ _ (record { sfits = st .struct-told2 .given .1 .0 .1 }) (av .advance .ensures .1) in (
-      av .advance .ensures .0,
+    let a = start (i .before) in
+    let d = advanced-at _ _ _ _ _ _ _ _ _ _ (record { sfits = st .struct-told2 .given .1 .0 .1 }) (st .before .advance .ensures .1) in (
+      st .before .advance .ensures .0,
       standing-next (a .args .n) (a .args .values .now) (a .args .col .now) (a .args .left .now) (a .args .right .now) (a .args .limit) _ _ _ _ _ _ _ d (v .1),
       λ xs h. going-next (a .args .n) (a .args .values .now) (a .args .col .now) (a .args .left .now) (a .args .right .now) (a .args .limit) _ _ _ _ xs _ _ _ _ _ (i .loop-test .taken) d (v .2 xs h) (c .before .if1 .left) (c .if2 .left),
     )
@@ -101,10 +105,8 @@ loop-again c =
 returns-3 : tie.Need-returns-3 Inv-loop μ-loop
 returns-3 c =
     let v = c .before .loop .inv in
-    let told = c .before .before in
-    let a = told .before .before .before .before in
-    let f : SFits w16 (a .args .state .sum) = record { sfits = told .struct-told .given .1 .1 .0 .1 } in
-    (v .0, (v .1, λ vs tb xs h. reached-by (a .args .n) (a .args .col .now) (a .args .left .now) (a .args .right .now) (a .args .values .now) vs (a .pre .1 .0) tb (a .args .limit) _ _ _ _ _ xs _ _ _ f (record { way = inl ((c .loop-test .left, v .2 xs h)) })))
+    let a = start (c .before) in
+    (v .0, (v .1, λ vs tb xs h. reached-by (a .args .n) (a .args .col .now) (a .args .left .now) (a .args .right .now) (a .args .values .now) vs (a .pre .1 .0) tb (a .args .limit) _ _ _ _ _ xs _ _ _ (start-fits (c .before)) (record { way = inl ((c .loop-test .left, v .2 xs h)) })))
 
 pub run-spec : {M : Type 1} → statement M
 run-spec =

@@ -1,5 +1,5 @@
 -- `stack::lift` meets its contract. Assumes nothing.
-use mathlib.Core.Path.{ap, subst, subst⁻¹}
+use mathlib.Core.Path.{ap, subst⁻¹}
 use lib.IntN.{ℤ, pos, natAbs, _+ℤ_}
 use lib.Signed.{nonNeg}
 use lib.Dec.{T}
