@@ -84,13 +84,14 @@ module _ (read : Reader) (page work held changes erased : List (List ℕ)) (sum 
       let long-symbols : length (symbols short i rs) ≡ 63 = length-map rs (symbol short i) ∙ long in
       length-map (changed (symbols short i rs) (marks rs) r) flag ∙ changed-length (symbols short i rs) (marks rs) r (length-map rs mark ∙ long ∙ sym long-symbols) (e ∙ sym long-symbols) ∙ long-symbols
 
-  pub decoding-more : out .settled ≡ true → out .count ≤ 126000 → SoftColumns after
-      → Decoding read page after (set held i (out .row)) (set changes i (out .changed)) (set erased i (out .erased)) (sum + out .count) (i + 1)
+  -- one level more, whose steps are added
+  pub decoding-more : out .settled ≡ true → out .count ≤ 126000 → SoftColumns after → (total : ℕ) → total ≡ sum + out .count
+      → Decoding read page after (set held i (out .row)) (set changes i (out .changed)) (set erased i (out .erased)) total (i + 1)
   unfolding LevelDone level settle
-  decoding-more ok few soft = go (decodedRow short shortOuter i (map (read i) work)) refl done
+  decoding-more ok few soft total et = go (decodedRow short shortOuter i (map (read i) work)) refl done
     where
       go : (o : OuterAnswer) → decodedRow short shortOuter i (map (read i) work) ≡ o → Ended o i (map (read i) work) work out after
-          → Decoding read page after (set held i (out .row)) (set changes i (out .changed)) (set erased i (out .erased)) (sum + out .count) (i + 1)
+          → Decoding read page after (set held i (out .row)) (set changes i (out .changed)) (set erased i (out .erased)) total (i + 1)
       go NoneInReach e d = absurd (true≢false (sym ok ∙ d))
       go (Found r) e d =
           let l = level short i (map (read i) work) r in
@@ -103,14 +104,14 @@ module _ (read : Reader) (page work held changes erased : List (List ℕ)) (sum 
             levels = f .levels ++ (l ∷ []);
             so-far =
                 ap (run short shortOuter read page) (add-one i) ∙ onwards (Found r) e
-                ∙ ap₂ (λ (cs : List (List ℕ)) (n : ℕ). going cs (f .levels ++ (l ∷ [])) (sum + n)) (sym (d .5)) (sym (d .4));
+                ∙ ap₂ (λ (cs : List (List ℕ)) (n : ℕ). going cs (f .levels ++ (l ∷ [])) n) (sym (d .5)) (omega (arith, d .4, et));
             rows-so = held-more (λ x. x .symbols) held (f .levels) i (out .row) l (omega (arith, f .long-held)) (f .rows-so) (d .1);
             changes-so = held-more (λ x. map flag (x .changed)) changes (f .levels) i (out .changed) l (omega (arith, f .long-changes)) (f .changes-so) (d .2);
             erased-so = held-more (λ x. map flag (x .erased)) erased (f .levels) i (out .erased) l (omega (arith, f .long-erased)) (f .erased-so) (d .3);
             words = each-more (WordOf 64 63) held i (out .row) (omega (arith, f .long-held)) (f .words) (subst⁻¹ (WordOf 64 63) (d .1) (word r e));
             changes-wide = each-more (λ s. length s ≡ 63) changes i (out .changed) (omega (arith, f .long-changes)) (f .changes-wide) (ap length (d .2) ∙ wide r (word r e .0));
             erased-wide = each-more (λ s. length s ≡ 63) erased i (out .erased) (omega (arith, f .long-erased)) (f .erased-wide) (ap length (d .3) ∙ length-map (marks (map (read i) work)) flag ∙ length-map (map (read i) work) mark ∙ length-map work (read i) ∙ f .soft .many);
-            few = omega (arith, f .few, few);
+            few = omega (arith, f .few, few, et);
           }
 
   stop : out .settled ≡ false → run short shortOuter read page (suc i) ≡ stopped i

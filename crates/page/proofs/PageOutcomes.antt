@@ -18,7 +18,7 @@ use Rattle.concatenated.specs.Flags.{flag, isOne}
 use Rattle.concatenated.specs.Arrays.{SoftColumns, Rows, FourSets}
 use Rattle.concatenated.specs.OuterCode.{shortOuter}
 use Rattle.levels.specs.Levels.{changedFlags, erasedFlags, Ends, ColumnsDone}
-use Rattle.page.specs.Outcomes.{outcomeOf, dataAfter}
+use Rattle.page.specs.Outcomes.{refusedPage, outcomeOf, dataAfter}
 use Rattle.levels.specs.declared.ColumnsOutcome.{ColumnsOutcome}
 use Rattle.levels.specs.declared.ColumnsOutcome.the-variants.{Answered, Refused}
 use Rattle.page.specs.declared.PageOutcome.{PageOutcome}
@@ -71,6 +71,15 @@ module _ (read : Reader) (page held changes erased : List (List ℕ)) (r : Colum
       go : (d : PageAnswer) → decoded short shortOuter read page ≡ d → Ends d r held changes erased → decoded short shortOuter read page ≡ refused l
       go (answered ls m) ed h = let z : Answered m ≡ Refused l = sym (h .0) ∙ e in let y : _≡_ {A = ℕ} 0 1 = cc z in absurd (omega arith)
       go (refused k) ed h = let same : k ≡ l = cc (sym h ∙ e) in ed ∙ ap refused same
+
+-- a refusal: number 10 with the level as its place, and the data as they were
+pub refusal-is-10 : (l : ℕ) → refusedPage 10 l ≡ outcomeOf (refused l)
+unfolding outcomeOf
+refusal-is-10 l = refl
+
+pub refusal-keeps-the-data : (old : List ℕ) (l : ℕ) → old ≡ dataAfter old (refused l)
+unfolding dataAfter
+refusal-keeps-the-data old l = refl
 
 -- the size of each set, read from the flags
 pub totals-are : (f : Level → List Bool) (ls : List Level) → map (λ (s : List ℕ). total (map isOne s)) (map (λ l. map flag (f l)) ls) ≡ map (λ l. total (f l)) ls

@@ -1,3 +1,4 @@
+pub mod Asked
 pub mod SoftValues
 pub mod BothDecoders
 pub mod WrittenPages

@@ -2,7 +2,7 @@
 use mathlib.Core.List.{List}
 use mathlib.Core.Path.{_≡_, sym, ap, _∙_}
 use Prim.Native.Nat.{ℕ, _≤_}
-use borrow.Author.Tests.{eq-eqb, le-leb}
+use borrow.Author.Tests.{leb-true}
 use lib.ListN.{length}
 use Rattle.dump.specs.Accepted.{Values}
 use Rattle.trellis.specs.Demand.{Search}
@@ -13,6 +13,7 @@ use Rattle.concatenated.specs.Written.{writtenRows, columnsOf}
 use Rattle.concatenated.specs.Misread.{WithinReach}
 use Rattle.concatenated.specs.Readers.{shortReader}
 use Rattle.concatenated.specs.OuterCode.{shortOuter, shortEncoder, ShortCodeword}
+use Rattle.questions.specs.Questions.{firstAbove}
 use Rattle.page.specs.Outcomes.{refusedPage, outcomeOf, dataAfter}
 use Rattle.page.specs.declared.PageOutcome.{PageOutcome}
 use Rattle.concatenated.proofs.Digits.{Below}
@@ -21,10 +22,11 @@ use Rattle.concatenated.proofs.Short.{written-page-comes-back}
 use Rattle.store_pages.specs.Pages.{decodedPage, askPage, PageDecoded}
 use Rattle.store_pages.specs.WrittenPages.{CameBack}
 use Rattle.questions.proofs.AllInRange.{no-value-above}
+use Rattle.store_pages.proofs.Asked.{all-yes}
 
 module _ (soft : List ℕ) (values-soft : Values 1890 7 soft) (limit : ℕ) (some : 1 ≤ limit) (at-most : limit ≤ 2000) (old : List ℕ) (room : length old ≡ 150) where
-  all-yes : {A : Type 0} (refusal : ℕ → ℕ → A) (next : A) → askPage soft limit old refusal next ≡ next
-  all-yes refusal next = simp (eq-eqb _ _ (values-soft .size), eq-eqb _ _ room, le-leb _ _ some, le-leb _ _ at-most, no-value-above soft 1890 7 (values-soft .size) (values-soft .range))
+  accepted : (A : Type 0) (refusal : ℕ → ℕ → A) (next : A) → next ≡ askPage soft limit old refusal next
+  accepted = all-yes soft limit old (values-soft .size) room some at-most (leb-true 1890 (firstAbove soft 7) (no-value-above soft 1890 7 (values-soft .size) (values-soft .range)))
 
   -- what `encode_page` wrote, read within reach at each level, comes back from the call
   pub written-page-comes-back-from-the-calls : (s : Search) (bytes : List ℕ) → length bytes ≡ 150 → Below 256 bytes
@@ -34,11 +36,11 @@ module _ (soft : List ℕ) (values-soft : Values 1890 7 soft) (limit : ℕ) (som
   written-page-comes-back-from-the-calls s bytes full are-bytes within r new call =
       let back = written-page-comes-back shortOuter shortEncoder ShortCodeword outer-laws s limit bytes full are-bytes soft within in
       let D = decodedPage s soft limit in
-      let outcome : r ≡ outcomeOf (answered (back .0) (back .1)) = call .answer ∙ all-yes refusedPage (outcomeOf D) ∙ ap outcomeOf (back .2) in
+      let outcome : r ≡ outcomeOf (answered (back .0) (back .1)) = call .answer ∙ sym (accepted PageOutcome refusedPage (outcomeOf D)) ∙ ap outcomeOf (back .2) in
       record {
         number = ap (λ (x : PageOutcome). x .number) outcome;
         place = ap (λ (x : PageOutcome). x .place) outcome;
-        data-are = call .bytes ∙ all-yes (λ n p. old) (dataAfter old D) ∙ ap (dataAfter old) (back .2) ∙ back .4;
+        data-are = call .bytes ∙ sym (accepted (List ℕ) (λ n p. old) (dataAfter old D)) ∙ ap (dataAfter old) (back .2) ∙ back .4;
         levels = back .0;
         answered-so = back .2 ∙ ap (λ (x : PageOutcome). answered (back .0) (x .steps)) (sym outcome);
         rows-are-written = back .3;

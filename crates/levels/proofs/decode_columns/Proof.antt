@@ -1,4 +1,5 @@
 -- `levels::decode_columns` meets its contract: the arrays hold what the run has given below the level. Assumes nothing.
+use native.Mathlib.Omega.{arith}
 use Prim.Native.Nat.{_-_}
 use Rattle.stack.specs.Places.{Room}
 use Rattle.concatenated.specs.Readers.{shortReader}
@@ -59,7 +60,7 @@ loop-again : tie.Need-loop-again Inv-loop μ-loop
 loop-again c =
     let turn = c .before .before .before .before .before .before .before .before .before .before .before in
     let done = c .before .before .before .before .before .decode-level .ensures in
-    (decoding-more _ _ _ _ _ _ _ _ (turn .loop .inv .0) (c .before .before .before .before .before .before .before .before .before .before .loop-test .taken) _ _ (done .0) (so _ (c .before .before .before .before .if1 .left)) (done .1) (done .2), done .3)
+    (decoding-more _ _ _ _ _ _ _ _ (turn .loop .inv .0) (c .before .before .before .before .before .before .before .before .before .before .loop-test .taken) _ _ (done .0) (so _ (c .before .before .before .before .if1 .left)) (done .1) (done .2) _ (omega arith), done .3)
 
 returns-2 : tie.Need-returns-2 Inv-loop μ-loop
 returns-2 c = decoding-answered _ _ _ _ _ _ _ _ (c .before .loop .inv .0) (c .loop-test .left)

@@ -8,7 +8,7 @@ use Rattle.concatenated.specs.Readers.{shortReader}
 use Rattle.search.specs.Outcomes.{searchOf}
 use Rattle.concatenated.specs.OuterCode.{shortOuter}
 use Rattle.page.specs.Outcomes.{outcomeOf, dataAfter}
-use Rattle.page.proofs.PageOutcomes.{soft-columns, is-answered, is-refused, rows-data-is-a-word, answered-outcome, answered-data}
+use Rattle.page.proofs.PageOutcomes.{soft-columns, is-answered, is-refused, refusal-is-10, refusal-keeps-the-data, rows-data-is-a-word, answered-outcome, answered-data}
 use borrow.Author.Needs.{needs}
 use Rattle.page.proofs.decode_page.Statement.{statement}
 use Rattle.page.proofs.decode_page.Tie as tie
@@ -87,7 +87,6 @@ returns c =
     )
 
 returns-2 : tie.Need-returns-2
-unfolding outcomeOf dataAfter
 returns-2 c =
     let left = c .before .before .before .before in
     let start = left .before .before .before .before .before .before .before .before .before .before .before .before .before .before in
@@ -96,8 +95,8 @@ returns-2 c =
     let loaded = left .before .before .before .before .before .before .before .before .before .before .load .ensures in
     let old = start .args .«data» .now in
     let refusal = sym (is-refused read _ _ _ _ _ (left .decode-columns .ensures) (told .0 .0) (told .1)) in (
-      c .refused .ensures ∙ ap outcomeOf refusal ∙ ap (λ (p : List (List ℕ)). outcomeOf (decoded short shortOuter read p)) loaded,
-      ap (dataAfter old) refusal ∙ ap (λ (p : List (List ℕ)). dataAfter old (decoded short shortOuter read p)) loaded,
+      c .refused .ensures ∙ refusal-is-10 (told .0 .0) ∙ ap outcomeOf refusal ∙ ap (λ (p : List (List ℕ)). outcomeOf (decoded short shortOuter read p)) loaded,
+      refusal-keeps-the-data old (told .0 .0) ∙ ap (dataAfter old) refusal ∙ ap (λ (p : List (List ℕ)). dataAfter old (decoded short shortOuter read p)) loaded,
     )
 
 pub decode-page-spec : {M : Type 1} → statement M

@@ -81,7 +81,8 @@ loop-again c =
     let h = c .before .before .before .before .before .before .loop-test .taken in
     let t = c .before .before .before .before .before .roots .ensures .0 in
     let level = turn .loop .level in
-    (front-more _ _ 4 _ _ [] (turn .loop .inv .0) h (row-written bytes level h _ (made .symbols-of .ensures) _ _ (turn .loop .inv .1) t _ (c .before .encode .ensures)), next-place bytes level h _ (made .symbols-of .ensures) _ _ (turn .loop .inv .1) t)
+    let next = next-place bytes level h _ (made .symbols-of .ensures) _ _ (turn .loop .inv .1) t in
+    (front-more _ _ 4 _ _ [] (turn .loop .inv .0) h (row-written bytes level h _ (made .symbols-of .ensures) _ _ (turn .loop .inv .1) t _ (c .before .encode .ensures)), omega (arith, next))
 
 returns : tie.Need-returns Inv-loop μ-loop
 returns c = front-all _ _ 4 _ (c .before .loop .inv .0) (c .loop-test .left)

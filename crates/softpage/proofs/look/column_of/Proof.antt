@@ -1,7 +1,7 @@
 -- `softpage::look::column_of` meets its contract: the two tests are those of the definition, and the part begins 30 j places behind the page's beginning. Assumes nothing.
 use mathlib.Core.Path.{_≡_, sym, ap, _∙_}
 use mathlib.Core.Logic.{⊎-elim}
-use Prim.Native.Nat.{ℕ, _+_, _-_, _*_}
+use Prim.Native.Nat.{ℕ, _+_, _-_, _*_, _<_}
 use lib.ListN.{length, take, drop}
 use Rattle.concatenated.specs.Format.{shortPage}
 use Rattle.concatenated.proofs.SoftPages.{part-of-the-page, no-part-above-the-last-column, no-part-of-another-length}
@@ -31,8 +31,9 @@ returns c =
     let page = start .args .page .now in
     let j = start .args .j in
     let full : length page ≡ 1890 = c .before .before .if1 .taken in
+    let inside : j < 63 = omega (arith, c .before .if2 .taken) in
     let wide : j * 30 + 30 - j * 30 ≡ 30 = omega arith in (
-      ap (λ (n : ℕ). take n (drop (j * 30) page)) wide ∙ sym (part-of-the-page shortPage page full j (c .before .if2 .taken)),
+      ap (λ (n : ℕ). take n (drop (j * 30) page)) wide ∙ sym (part-of-the-page shortPage page full j inside),
       λ l h. ap (λ (n : ℕ). (start .args .page .ptr .0, n)) (omega arith),
     )
 
@@ -51,7 +52,7 @@ returns-2 c =
     let page = start .args .page .now in
     let j = start .args .j in
     ⊎-elim
-    (λ w. (sym (no-part-above-the-last-column shortPage page j (w .1 .left)), λ l h. absurd (omega (arith, w .1 .left))))
+    (λ w. (sym (no-part-above-the-last-column shortPage page j (omega (arith, w .1 .left))), λ l h. absurd (omega (arith, w .1 .left))))
     (λ w. (sym (no-part-of-another-length shortPage page j (w .left)), λ l h. absurd (w .left l)))
     (c .before .if1 .came)
 
