@@ -1,4 +1,4 @@
--- What the code's arrays of columns, of rows and of flags hold. Assumes nothing.
+-- For the code's contracts: what the arrays of columns, of rows and of flags hold. Assumes nothing.
 use mathlib.Core.List.{List, []}
 use mathlib.Core.Path.{_≡_}
 use Prim.Native.Nat.{ℕ, _<_}

@@ -1,4 +1,4 @@
--- Clean bits: each soft value reads as the written bit. Assumes nothing.
+-- 01: clean bits, for 02's point 12: each soft value reads as the written bit. Assumes nothing.
 use mathlib.Core.Bool.{true}
 use mathlib.Core.List.{List}
 use mathlib.Core.Path.{_≡_}

@@ -1,4 +1,4 @@
--- Data as a run of bytes and as a run of symbols: groups of digits, written anew in another base. Assumes nothing.
+-- 01: data as a run of bytes and as a run of symbols: groups of digits, written anew in another base. Assumes nothing.
 use mathlib.Core.List.{List, [], _∷_, _++_}
 use Prim.Native.Nat.{ℕ, zero, suc}
 use lib.ListN.{take, drop}

@@ -1,4 +1,4 @@
--- Page decoding, level by level, over any reader of columns. Assumes nothing.
+-- 01: page decoding, level by level, over any reader of columns. Assumes nothing.
 use mathlib.Core.Bool.{Bool, true, false, cond, not}
 use mathlib.Core.List.{List, [], _∷_, _++_, map}
 use mathlib.Core.Path.{_≡_}

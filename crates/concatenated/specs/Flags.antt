@@ -1,4 +1,4 @@
--- Sets of columns as the code holds them: a flag for each column, 1 if it is in. Assumes nothing.
+-- For the code's contracts: a set of columns as a flag for each column, 1 if it is in. Assumes nothing.
 use mathlib.Core.Bool.{Bool, cond}
 use Prim.Native.Nat.{ℕ}
 use lib.Dec.{eqb}

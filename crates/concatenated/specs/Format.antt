@@ -1,4 +1,4 @@
--- The numbers of a page: its columns, its rows and the packing of its data. Assumes nothing.
+-- 01: the numbers of a page: its columns, its rows and the packing of its data. Assumes nothing.
 use mathlib.Core.Path.{_≡_}
 use Prim.Native.Nat.{ℕ, zero, suc, _+_, _-_, _*_, _^_, _≤_, _<_}
 use Rattle.column.specs.Shape.{Shape, Sound, levels, short}

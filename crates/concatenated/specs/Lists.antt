@@ -1,4 +1,4 @@
--- Lists: each entry, sums, and how many columns are in a set. Assumes nothing.
+-- 01: the lists that its words are said with: each entry, sums, and how many columns are in a set. Assumes nothing.
 use mathlib.Core.Bool.{Bool, cond}
 use mathlib.Core.List.{List, [], _∷_, _++_}
 use Prim.Native.Nat.{ℕ, zero, suc, _+_}

@@ -1,4 +1,4 @@
--- Which columns of a written page a decoder misreads or leaves unread. Assumes nothing.
+-- 01: which columns of a written page a decoder misreads or leaves unread; the premise of demand 2. Assumes nothing.
 use mathlib.Core.Bool.{Bool, false, not}
 use mathlib.Core.List.{List, [], _∷_, map}
 use Prim.Native.Nat.{ℕ, _+_, _*_, _≤_}

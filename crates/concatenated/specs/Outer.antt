@@ -1,4 +1,4 @@
--- What a page asks of the outer code: decoding and encoding of rows, and their laws. Assumes nothing.
+-- 01: what a page asks of the outer code: decoding and encoding of rows, and their laws. Assumes nothing.
 use mathlib.Core.Bool.{Bool, false}
 use mathlib.Core.List.{List}
 use mathlib.Core.Path.{_≡_}

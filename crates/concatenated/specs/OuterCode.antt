@@ -1,4 +1,4 @@
--- The outer code of the short page, as a page asks for it. Assumes nothing.
+-- 01: the outer code of the short page, as a page asks for it. Assumes nothing.
 use mathlib.Core.List.{List, map}
 use Prim.Native.Nat.{ℕ}
 use Rattle.reedsolomon.specs.Search.{WordOf}

@@ -1,4 +1,4 @@
--- Where a part lies. Assumes nothing.
+-- For the code's contracts: where a part lies. Assumes nothing.
 use mathlib.Core.Path.{_≡_}
 use Prim.Native.Nat.{ℕ, _+_}
 

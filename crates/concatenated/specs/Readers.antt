@@ -1,4 +1,4 @@
--- The two readers of columns, and where two decoders agree. Assumes nothing.
+-- 01: the two decoders, by their readers of columns; the premise and the conclusion of demand 3 for pages. Assumes nothing.
 use mathlib.Core.Bool.{false}
 use mathlib.Core.List.{List, map}
 use mathlib.Core.Path.{_≡_}

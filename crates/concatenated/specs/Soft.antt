@@ -1,4 +1,4 @@
--- Soft values. Assumes nothing.
+-- 01: soft values. Assumes nothing.
 use Prim.Native.Nat.{ℕ, zero, suc, _-_}
 
 -- 01: "each column's level word is taken off: where it has a one, soft value q becomes 7 − q"

@@ -1,4 +1,4 @@
--- Soft columns and soft pages. Assumes nothing.
+-- 01: soft columns and soft pages. Assumes nothing.
 use mathlib.Core.Bool.{cond, _&&_}
 use mathlib.Core.List.{List, [], _∷_, map}
 use Prim.Native.Nat.{ℕ, _*_, _≤_}

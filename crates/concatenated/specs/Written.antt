@@ -1,4 +1,4 @@
--- The written page, from the data to its bytes, and back from rows to data. Assumes nothing.
+-- 01: the written page, from the data to its bytes, and back from rows to data. Assumes nothing.
 use mathlib.Core.List.{List, [], _++_, map, flatMap}
 use Prim.Native.Nat.{ℕ, zero, suc, _-_, _*_, _^_}
 use lib.ListN.{getD, take, drop}

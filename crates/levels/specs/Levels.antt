@@ -1,4 +1,4 @@
--- What a level, and the levels of a page, leave in the code's arrays. Assumes nothing.
+-- For the code's contracts: what a level, and the levels of a page, leave in the arrays. Assumes nothing.
 use mathlib.Core.Bool.{true, false}
 use mathlib.Core.List.{List, map}
 use mathlib.Core.Path.{_≡_}

@@ -1,4 +1,4 @@
--- The outcome of page decoding as the code gives it, and the data after it. Assumes nothing.
+-- 01: what page decoding reports, as the code gives it, and the data after it. Assumes nothing.
 use mathlib.Core.List.{List, [], _∷_, map}
 use Prim.Native.Nat.{ℕ}
 use Rattle.page.specs.declared.PageOutcome.{PageOutcome}

@@ -1,4 +1,4 @@
--- The outer code at lists of symbols, in 01's words: the field of 2 ^ m elements by the modulus g, N columns, T roots. Assumes nothing.
+-- 01: the outer code at lists of symbols: the field of 2 ^ m elements by the modulus g, N columns, T roots. Assumes nothing.
 use mathlib.Core.Path.{_≡_}
 use mathlib.Core.Bool.{Bool, true, false}
 use mathlib.Core.List.{List, []}
@@ -14,10 +14,6 @@ use Rattle.reedsolomon.specs.Search.{words, first, both?, all?, OuterAns
 -- symbol j of a word
 abbrev pub symbol : List ℕ → ℕ → ℕ
 symbol w j = getD w j 0
-
--- every symbol is an element of the field
-abbrev pub Symbols : ℕ → List ℕ → Type 0
-Symbols m w = (j : ℕ) → symbol w j < 2 ^ m
 
 -- 01: "63 marks (1 = erased, else 0)"
 unfoldable pub marked : List ℕ → ℕ → Bool
@@ -61,6 +57,12 @@ isFound NoneInReach = false
 unfoldable pub encodedRow : (m g N T : ℕ) → List ℕ → List ℕ
 encodedRow m g N T d =
     wordOf [] (first (λ c. IsCodeword m g N T c × HasInFront N T d c) (λ c. both? (codeword? m g N T c) (hasInFront? N T d c)) (words (2 ^ m) N))
+
+-- ---- for the code's contracts
+
+-- every symbol is an element of the field
+abbrev pub Symbols : ℕ → List ℕ → Type 0
+Symbols m w = (j : ℕ) → symbol w j < 2 ^ m
 
 -- What decoding gives: whether a word was found, and the word written in the place of the old one if there is one.
 pub record RowDecoded (answer : OuterAnswer) (found : Bool) (old new : List ℕ) : Type 0 where

@@ -1,4 +1,4 @@
--- The words of n symbols, one after the other, and the first of them with a property that can be decided. Assumes nothing.
+-- 01: what outer decoding gives, by the words of n symbols, one after the other, and the first of them with a property that can be decided. Assumes nothing.
 use mathlib.Core.List.{List, [], _∷_}
 use Prim.Native.Nat.{ℕ, zero, suc, _<_}
 use native.Mathlib.Nat.{not-suc-le-zero, le-trans, le-suc, lt-suc-self}

@@ -1,4 +1,4 @@
--- The answers of the page calls. Assumes nothing.
+-- 01: the questions put to the page calls, and their answers. Assumes nothing.
 use mathlib.Core.List.{List}
 use mathlib.Core.Path.{_≡_}
 use Prim.Native.Nat.{ℕ}

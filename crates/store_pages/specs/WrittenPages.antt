@@ -1,4 +1,4 @@
--- Demand 2, of the calls: what a page decoder gives for a written page. Assumes nothing.
+-- 01: a written page, as a call reads it: what demand 2 says that a page decoder gives. Assumes nothing.
 use mathlib.Core.List.{List}
 use mathlib.Core.Path.{_≡_}
 use Prim.Native.Nat.{ℕ}
