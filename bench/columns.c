@@ -9,7 +9,7 @@
 enum { COLUMNS = 2000, ROUNDS = 9 };
 
 /* crates/measured: the search of every column of a buffer over one set of arrays; the answers folded into one number */
-uint64_t measured_searches(const uint8_t *soft, size_t count, uint64_t level, uint64_t supercode, uint64_t limit);
+uint64_t measured_searches(uint64_t level, const uint8_t *soft, size_t count, uint64_t limit, uint64_t supercode);
 
 /* Random words of the level, read with noise of the given strength. */
 static void fill(uint8_t *soft, int level, double sigma) {
@@ -47,7 +47,7 @@ int main(int argc, char **argv) {
                 uint64_t a = 0, b = 0, c = 0;
                 for (int round = 0; round < ROUNDS; round++) {
                     double t = seconds();
-                    a = measured_searches(soft, sizeof soft, (uint64_t)level, (uint64_t)supercode, (uint64_t)limit);
+                    a = measured_searches((uint64_t)level, soft, sizeof soft, (uint64_t)limit, (uint64_t)supercode);
                     double u = seconds();
                     b = baseline_searches(baseline_plain, soft, left, right, limit);
                     double v = seconds();

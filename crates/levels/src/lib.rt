@@ -44,8 +44,8 @@ fn decode_level(
     let mut symbols = [0u8; 63];
     let mut marks = [0u8; 63];
     let count = readings::read_row(
-        &*work,
         level,
+        &*work,
         limit,
         in_supercodes,
         table,

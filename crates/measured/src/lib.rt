@@ -55,7 +55,7 @@ fn search_all(soft: &[u8], left: &[u64; 30], right: &[u64; 30], limit: u64) -> u
 
 // The searches of a level with a limit: the whole search, or the supercode search where `supercode` is not 0; 0 where a question of the store would refuse.
 #[no_mangle]
-pub extern "C" fn measured_searches(soft: &[u8], level: u64, supercode: u64, limit: u64) -> u64
+pub extern "C" fn measured_searches(level: u64, soft: &[u8], limit: u64, supercode: u64) -> u64
     ensures { λ r. ⌜ r ≡ measuredAnswer (named supercode) level (now (soft .entry)) limit ⌝ }
 {
     if 4 <= level {

@@ -42,8 +42,8 @@ fn enter(level: usize, limit: u64, found: SearchOutcome) -> Entry
 
 // Searches each column at a level: writes the symbols of the row and the flags of its erased columns, and gives the steps.
 pub fn read_row(
-    work: &[[u8; 30]; 63],
     level: usize,
+    work: &[[u8; 30]; 63],
     limit: u64,
     in_supercodes: bool,
     table: &[i16; 16],

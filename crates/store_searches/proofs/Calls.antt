@@ -2,7 +2,7 @@
 use mathlib.Core.List.{List}
 use mathlib.Core.Logic.{_↔_}
 use mathlib.Core.Path.{_≡_, sym, ap, _∙_}
-use Prim.Native.Nat.{ℕ, _≤_, _<_}
+use Prim.Native.Nat.{ℕ, _+_, _≤_, _<_}
 use native.Mathlib.Decide.{decLe}
 use native.Mathlib.Omega.{arith}
 use lib.ListN.{length}
@@ -14,8 +14,9 @@ use Rattle.paths.specs.Tree.{number as rank}
 use Rattle.trellis.specs.Values.{values}
 use Rattle.trellis.specs.Order.{number as columnOf}
 use Rattle.trellis.specs.Trellis.{searched}
-use Rattle.trellis.specs.Demand.{Search, trellis, AheadOfAll, Counted}
-use Rattle.trellis.proofs.Counts.{rank-counts, rank-is-a-number-of-paths}
+use Rattle.trellis.specs.Demand.{Search, whole, supercode, trellis, AheadOfAll, Counted, DeadAhead}
+use Rattle.trellis.proofs.Demand.{Searchable, ranks-differ-by-the-dead-ahead}
+use Rattle.trellis.proofs.Counts.{rank-counts, rank-is-a-number-of-paths, dead-ahead-counts}
 use Rattle.trellis.proofs.Short.{searchable, one-codeword-is-ahead-of-all, answers-within-the-limit, is-spent-above-the-limit}
 use Rattle.questions.proofs.AllInRange.{no-value-above}
 use Rattle.store_searches.specs.Searches.{number, place, word, count, Is, Allowed, outcomeAnswer, searchAnswer}
@@ -61,3 +62,31 @@ module _ (s : Search) (level : ℕ) (soft : List ℕ) (limit : ℕ) (allowed : A
         go : number (searchAnswer s level soft limit) ≡ 9 → Dec (length ps ≤ limit) → limit < length ps
         go nine (yes l) = let zero : number (searchAnswer s level soft limit) ≡ 0 = call-answers-within-the-limit l .1 .0 in absurd (omega (arith, nine, zero))
         go nine (no l) = omega arith
+
+-- demand 3: "the whole-trellis decoder's count is smaller by exactly the dead paths ahead of that codeword": of two calls on one column, ds a list of these paths
+module _ (level : ℕ) (soft : List ℕ) (limit : ℕ) (allowed : Allowed level soft limit) (w : Path) (best : AheadOfAll short values soft level w) (ds : List Path) (dead : Lists (DeadAhead short values soft level w) ds) where
+  pub calls-differ-by-the-dead-ahead : number (searchAnswer supercode level soft limit) ≡ 0
+      → (number (searchAnswer whole level soft limit) ≡ 0) × (word (searchAnswer whole level soft limit) ≡ word (searchAnswer supercode level soft limit))
+      × (count (searchAnswer supercode level soft limit) ≡ count (searchAnswer whole level soft limit) + length ds)
+  unfolding outcomeAnswer
+  calls-differ-by-the-dead-ahead zero = go (decLe (rank (trellis supercode short values soft level) w) limit)
+    where
+      given : Searchable short level
+      given = searchable level (allowed .level)
+
+      found : (s : Search) → rank (trellis s short values soft level) w ≤ limit → searchAnswer s level soft limit ≡ Found (columnOf w) (rank (trellis s short values soft level) w)
+      found s l = asked s level soft limit allowed ∙ ap outcomeAnswer (answers-within-the-limit level (allowed .level) soft s w best limit l)
+
+      differ : rank (trellis supercode short values soft level) w ≡ rank (trellis whole short values soft level) w + length ds
+      differ = ranks-differ-by-the-dead-ahead short level given values soft w (best .codeword) ∙ ap (λ (d : ℕ). rank (trellis whole short values soft level) w + d) (sym (dead-ahead-counts short level given values soft w ds dead))
+
+      go : Dec (rank (trellis supercode short values soft level) w ≤ limit)
+          → (number (searchAnswer whole level soft limit) ≡ 0) × (word (searchAnswer whole level soft limit) ≡ word (searchAnswer supercode level soft limit))
+          × (count (searchAnswer supercode level soft limit) ≡ count (searchAnswer whole level soft limit) + length ds)
+      go (yes l) =
+          let both = found supercode l in
+          let one = found whole (omega (arith, differ)) in
+          (ap number one, ap word one ∙ sym (ap word both), ap count both ∙ differ ∙ ap (λ (c : ℕ). c + length ds) (sym (ap count one)))
+      go (no l) =
+          let nine : number (searchAnswer supercode level soft limit) ≡ 9 = ap number (asked supercode level soft limit allowed ∙ ap outcomeAnswer (is-spent-above-the-limit level (allowed .level) soft supercode w best limit (omega arith))) in
+          absurd (omega (arith, zero, nine))

@@ -18,10 +18,10 @@ use Rattle.readings.proofs.read_row.Statement.{statement}
 use Rattle.readings.proofs.read_row.Tie as tie
 
 abbrev Inv-loop : tie.InvT-loop
-Inv-loop work level limit in-supercodes table sums₀ lens₀ bits₀ symbols₀ marks₀ left right sum₀ j₀ sums lens bits symbols marks sum j = RowFilling level (shortReader (searchOf in-supercodes) limit level) work symbols marks sum j × Room sums lens bits
+Inv-loop level work limit in-supercodes table sums₀ lens₀ bits₀ symbols₀ marks₀ left right sum₀ j₀ sums lens bits symbols marks sum j = RowFilling level (shortReader (searchOf in-supercodes) limit level) work symbols marks sum j × Room sums lens bits
 
 abbrev μ-loop : tie.MeasureT-loop
-μ-loop work level limit in-supercodes table sums₀ lens₀ bits₀ symbols₀ marks₀ left right sum₀ j₀ sums lens bits symbols marks sum j = 63 - j
+μ-loop level work limit in-supercodes table sums₀ lens₀ bits₀ symbols₀ marks₀ left right sum₀ j₀ sums lens bits symbols marks sum j = 63 - j
 
 -- ---- what the places share
 

@@ -3,11 +3,11 @@ use Prim.Native.Nat.{_-_}
 use mathlib.Core.Logic.{inl, inr}
 use mathlib.Core.List.{List}
 use mir.Syntax.{w16}
-use mir.Val.{toZ, SFits}
+use mir.Val.{toZ, ofZ, SFits}
 use Rattle.heap.specs.Holds.{Holds}
 use Rattle.trellis.specs.Keys.{Key, key}
 use Rattle.stack.specs.Places.{at, Room, Upto}
-use Rattle.extension.specs.Steps.{tableNodes}
+use Rattle.extension.specs.Steps.{tableNodes, Advanced}
 use Rattle.search.specs.Progress.{Standing, Going}
 use Rattle.extension.proofs.Advances.{advanced-at}
 use Rattle.search.proofs.Continues.{going-start, going-next, answered, ended, standing-at, standing-next, standing-end, reached-by}
@@ -36,6 +36,13 @@ start-fits v = record { sfits = v .before .struct-told .given .1 .1 .0 .1 }
 abbrev turn : tie.After-struct-told2 Inv-loop μ-loop → tie.In-loop Inv-loop μ-loop
 turn st = st .before .before .before .before .before
 
+-- the step that was made there
+advanced : (st : tie.After-struct-told2 Inv-loop μ-loop)
+    → (let v = turn st .before in let a = start v in let r = st .before .advance in
+    Advanced (tableNodes (a .args .n) (a .args .values .now) (a .args .col .now) (a .args .left .now) (a .args .right .now)) (a .args .n) (at (v .loop .sums) (v .loop .lens) (v .loop .bits)) (at (r .last .0) (r .last .1 .0) (r .last .1 .1 .0))
+    (v .loop .paths) (r .result .paths) (key (toZ w16 (v .loop .s)) (v .loop .l) (v .loop .b)) (key (toZ w16 (ofZ w16 (r .result .sum))) (r .result .len) (r .result .bits)))
+advanced st = advanced-at _ _ _ _ _ _ _ _ _ _ (record { sfits = st .struct-told2 .given .1 .0 .1 }) (st .before .advance .ensures .1)
+
 loop-holds : tie.Need-loop-holds Inv-loop μ-loop
 loop-holds c =
     let a = c .before .before .before .before in
@@ -58,7 +65,7 @@ returns c =
     let i = turn st in
     let v = i .before .loop .inv in
     let a = start (i .before) in
-    let d = advanced-at _ _ _ _ _ _ _ _ _ _ (record { sfits = st .struct-told2 .given .1 .0 .1 }) (st .before .advance .ensures .1) in (
+    let d = advanced st in (
       st .before .advance .ensures .0,
       (
         standing-end (a .args .n) (a .args .values .now) (a .args .col .now) (a .args .left .now) (a .args .right .now) (a .args .limit) _ _ _ _ _ _ _ d (v .1) (c .if1 .taken),
@@ -77,7 +84,7 @@ returns-2 c =
     let i = turn st in
     let v = i .before .loop .inv in
     let a = start (i .before) in
-    let d = advanced-at _ _ _ _ _ _ _ _ _ _ (record { sfits = st .struct-told2 .given .1 .0 .1 }) (st .before .advance .ensures .1) in (
+    let d = advanced st in (
       st .before .advance .ensures .0,
       (
         standing-next (a .args .n) (a .args .values .now) (a .args .col .now) (a .args .left .now) (a .args .right .now) (a .args .limit) _ _ _ _ _ _ _ d (v .1),
@@ -96,7 +103,7 @@ loop-again c =
     let i = turn st in
     let v = i .before .loop .inv in
     let a = start (i .before) in
-    let d = advanced-at _ _ _ _ _ _ _ _ _ _ (record { sfits = st .struct-told2 .given .1 .0 .1 }) (st .before .advance .ensures .1) in (
+    let d = advanced st in (
       st .before .advance .ensures .0,
       standing-next (a .args .n) (a .args .values .now) (a .args .col .now) (a .args .left .now) (a .args .right .now) (a .args .limit) _ _ _ _ _ _ _ d (v .1),
       λ xs h. going-next (a .args .n) (a .args .values .now) (a .args .col .now) (a .args .left .now) (a .args .right .now) (a .args .limit) _ _ _ _ xs _ _ _ _ _ (i .loop-test .taken) d (v .2 xs h) (c .before .if1 .left) (c .if2 .left),

@@ -1,7 +1,7 @@
 -- `stack::exchange` meets its contract: the path given comes out, or the root, in whose place it sinks. Assumes nothing.
-use Prim.Native.Nat.{_+_}
-use mathlib.Core.Bool.{true, false}
-use mathlib.Core.Path.{_≡_, sym, ap, _∙_, subst}
+use Prim.Native.Nat.{ℕ, _+_}
+use mathlib.Core.Bool.{Bool, true, false}
+use mathlib.Core.Path.{_≡_, sym, ap, ap₂, _∙_}
 use lib.IntN.{pos}
 use lib.ListN.{getD}
 use mir.Syntax.{w16}
@@ -16,6 +16,27 @@ use native.Mathlib.Omega.{arith}
 use borrow.Author.Needs.{needs}
 use Rattle.stack.proofs.exchange.Statement.{statement}
 use Rattle.stack.proofs.exchange.Tie as tie
+
+-- ---- what the places share, where the root and the path were compared
+
+abbrev start : tie.After-stands-before → tie.Start
+start told = told .before .before .before .before .before .before
+
+abbrev keys : tie.After-stands-before → ℕ → Key
+keys told = at (start told .args .sums .now) (start told .args .lens .now) (start told .args .bits .now)
+
+abbrev path : tie.After-stands-before → Key
+path told = key (start told .args .s) (start told .args .l) (start told .args .b)
+
+-- the code's keys are the root's and the path's
+root-is : (told : tie.After-stands-before) → key (toZ w16 (ofZ w16 (keys told 0 .sum))) (keys told 0 .len) (keys told 0 .bits) ≡ keys told 0
+root-is told = key-sum _ _ _ _ (toZ-ofZ {w = w16} (record { sfits = told .before .before .before .before .st .given }))
+
+path-is : (told : tie.After-stands-before) → key (toZ w16 (ofZ w16 (start told .args .s))) (start told .args .l) (start told .args .b) ≡ path told
+path-is told = key-sum _ _ _ _ (toZ-ofZ (start told .fits .s))
+
+compared : (told : tie.After-stands-before) (t : Bool) → told .stands-before .result ≡ t → keyBefore (keys told 0) (path told) ≡ t
+compared told t e = ap₂ keyBefore (sym (root-is told)) (sym (path-is told)) ∙ sym (told .stands-before .ensures) ∙ e
 
 returns : tie.Need-returns
 returns c =
@@ -53,32 +74,18 @@ sink-requires c κs =
 
 returns-3 : tie.Need-returns-3
 returns-3 c =
-    let t = c .before .before .before .before in
-    let g = t .before .before .before .before .before in
-    let a = g .before .before in
-    let z = toZ-ofZ {w = w16} (record { sfits = g .st .given }) in
-    let root = key-sum (getD (a .args .lens .now) 0 0) (getD (a .args .bits .now) 0 0) _ _ z in
-    let x = key-sum (a .args .l) (a .args .b) _ _ (toZ-ofZ (a .fits .s)) in
-    let f = at (a .args .sums .now) (a .args .lens .now) (a .args .bits .now) in
-    let b = sym (t .before .stands-before .ensures) ∙ t .if3 .taken in (
+    let told = c .before .before .before .before .before in
+    let a = start told in (
       c .sink .ensures .0,
-      out-sunk f _ (a .args .paths) (key (a .args .s) (a .args .l) (a .args .b)) _ (a .pre .1 .1 .0) (c .sink .ensures .1 .0) (λ h. c .sink .ensures .1 .1 h ∙ ap (λ (k : Key). weigh h f (a .args .paths) + h k) x)
-          (subst (λ (k : Key). keyBefore (f 0) k ≡ true) x (subst (λ (y : Key). keyBefore y (key (toZ w16 (ofZ w16 (a .args .s))) (a .args .l) (a .args .b)) ≡ true) root b)) (sym root),
+      out-sunk (keys told) _ (a .args .paths) (path told) _ (a .pre .1 .1 .0) (c .sink .ensures .1 .0) (λ h. c .sink .ensures .1 .1 h ∙ ap (λ (k : Key). weigh h (keys told) (a .args .paths) + h k) (path-is told))
+          (compared told true (c .before .before .before .before .if3 .taken)) (sym (root-is told)),
     )
 
 returns-4 : tie.Need-returns-4
 returns-4 c =
-    let g = c .before .before .before .before .before in
-    let a = g .before .before in
-    let z = toZ-ofZ {w = w16} (record { sfits = g .st .given }) in
-    let root = key-sum (getD (a .args .lens .now) 0 0) (getD (a .args .bits .now) 0 0) _ _ z in
-    let x = key-sum (a .args .l) (a .args .b) _ _ (toZ-ofZ (a .fits .s)) in
-    let f = at (a .args .sums .now) (a .args .lens .now) (a .args .bits .now) in
-    let b = sym (c .before .stands-before .ensures) ∙ c .if3 .left in (
-      a .pre .1 .0,
-      out-same f (a .args .paths) (key (a .args .s) (a .args .l) (a .args .b)) _ (a .pre .1 .1 .0)
-          (subst (λ (k : Key). keyBefore (f 0) k ≡ false) x (subst (λ (y : Key). keyBefore y (key (toZ w16 (ofZ w16 (a .args .s))) (a .args .l) (a .args .b)) ≡ false) root b)) (sym x),
-    )
+    let told = c .before in
+    let a = start told in
+    (a .pre .1 .0, out-same (keys told) (a .args .paths) (path told) _ (a .pre .1 .1 .0) (compared told false (c .if3 .left)) (sym (path-is told)))
 
 pub exchange-spec : {M : Type 1} → statement M
 exchange-spec =
