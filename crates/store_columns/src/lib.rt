@@ -1,6 +1,7 @@
 // Column calls: 01, "Field and column".
 ghost use mathlib.Core.Path.{_≡_};
 ghost use Prim.Native.Nat.{_<_};
+ghost use Rattle.questions.specs.Answer.{Answered};
 ghost use Rattle.store_columns.specs.Columns.{encodeAnswer, levelWordAnswer, reimageAnswer};
 use questions::Answer;
 
@@ -12,7 +13,7 @@ fn wide(x: u8) -> u64
 
 // The column of four symbols, level 0's first. Refused by 1 and 5.
 pub fn encode_column(symbols: &[u8]) -> Answer
-    ensures { λ r. ⌜ r ≡ encodeAnswer (now (symbols .entry)) ⌝ }
+    ensures { λ r. ⌜ Answered (encodeAnswer (now (symbols .entry))) r ⌝ }
 {
     if symbols.len() != 4 {
         return Answer::Refused(1, 0);
@@ -31,7 +32,7 @@ pub fn encode_column(symbols: &[u8]) -> Answer
 
 // The level word of a symbol. Refused by 3 and 5.
 pub fn level_word(level: u64, symbol: u64) -> Answer
-    ensures { λ r. ⌜ r ≡ levelWordAnswer level symbol ⌝ }
+    ensures { λ r. ⌜ Answered (levelWordAnswer level symbol) r ⌝ }
 {
     if 4 <= level {
         return Answer::Refused(3, 0);
@@ -44,7 +45,7 @@ pub fn level_word(level: u64, symbol: u64) -> Answer
 
 // The symbol that a word of a level carries there. Refused by 3, 5 and 6.
 pub fn reimage(level: u64, column: u64) -> Answer
-    ensures { λ r. ⌜ r ≡ reimageAnswer level column ⌝ }
+    ensures { λ r. ⌜ Answered (reimageAnswer level column) r ⌝ }
 {
     if 4 <= level {
         return Answer::Refused(3, 0);

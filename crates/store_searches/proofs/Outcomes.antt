@@ -1,6 +1,6 @@
 -- A search's outcome as its answer. Assumes nothing.
 use mathlib.Core.List.{List}
-use mathlib.Core.Path.{_≡_, refl}
+use mathlib.Core.Path.{_≡_, refl, ap}
 use Prim.Native.Nat.{ℕ, _≤_, _<_}
 use native.Mathlib.Omega.{arith}
 use lib.ListN.{getD}
@@ -8,7 +8,8 @@ use Rattle.paths.specs.Search.{SearchResult, answer, spent}
 use Rattle.search.specs.Outcomes.{codeOutcome}
 use Rattle.search.specs.declared.SearchOutcome.the-variants.{Found as CodeFound, Spent as CodeSpent}
 use Rattle.questions.specs.Questions.{firstAbove}
-use Rattle.store_searches.specs.Searches.{outcomeAnswer}
+use Rattle.store_searches.specs.Searches.{number, place, word, count, Answered, outcomeAnswer}
+use Rattle.store_searches.specs.declared.SearchAnswer.{SearchAnswer}
 use Rattle.store_searches.specs.declared.SearchAnswer.the-variants.{Found, Refused}
 use Rattle.questions.proofs.FirstAbove.{below-first}
 
@@ -25,3 +26,7 @@ spent-answer (spent d) e = refl
 -- what question 5 leaves for the search to ask
 pub asked-range : (soft : List ℕ) → 30 ≤ firstAbove soft 7 → (k : ℕ) → k < 30 → getD soft k 0 ≤ 7
 asked-range soft good k l = below-first soft 7 k (omega arith)
+
+-- at a call's return
+pub answered : {due r : SearchAnswer} → r ≡ due → Answered due r
+answered e = record { answer = e; number = ap number e; place = ap place e; word = ap word e; count = ap count e }

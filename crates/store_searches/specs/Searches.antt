@@ -30,6 +30,14 @@ abbrev pub count : SearchAnswer → ℕ
 count (Found w c) = c
 count (Refused n p) = 0
 
+-- a search that is due to answer `due` answered r: the case of the enum, its number, place, word and count
+pub record Answered (due r : SearchAnswer) : Type 0 where
+  pub answer : r ≡ due
+  pub number : number r ≡ number due
+  pub place : place r ≡ place due
+  pub word : word r ≡ word due
+  pub count : count r ≡ count due
+
 -- an answer's number, place, word and count
 abbrev pub Is : SearchAnswer → ℕ → ℕ → ℕ → ℕ → Type 0
 Is a n p w c = (number a ≡ n) × (place a ≡ p) × (word a ≡ w) × (count a ≡ c)

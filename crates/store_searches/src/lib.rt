@@ -7,7 +7,7 @@ ghost use Rattle.trellis.specs.Demand.{Search, whole, supercode, trellis};
 ghost use Rattle.trellis.specs.Trellis.{searched};
 ghost use Rattle.trellis.specs.Keys.{MasksFor};
 ghost use Rattle.search.specs.Outcomes.{Searchable30, searchOf};
-ghost use Rattle.store_searches.specs.Searches.{searchAnswer, outcomeAnswer};
+ghost use Rattle.store_searches.specs.Searches.{Answered, searchAnswer, outcomeAnswer};
 use search::SearchOutcome;
 
 // What a column search answers: the word and the count. `number`, `place`, `word` and `count` of specs/Searches.antt are 01's words for its cases.
@@ -71,14 +71,14 @@ fn search_either(level: u64, soft: &[u8], limit: u64, in_supercodes: bool) -> Se
 
 // The whole search of a column: the word and the count. Refused by 1, 3, 4, 5 and 9.
 pub fn search_whole(level: u64, soft: &[u8], limit: u64) -> SearchAnswer
-    ensures { λ r. ⌜ r ≡ searchAnswer whole level (now (soft .entry)) limit ⌝ }
+    ensures { λ r. ⌜ Answered (searchAnswer whole level (now (soft .entry)) limit) r ⌝ }
 {
     search_either(level, soft, limit, false)
 }
 
 // The supercode search of a column: the word and the count. Refused by 1, 3, 4, 5 and 9.
 pub fn search_supercode(level: u64, soft: &[u8], limit: u64) -> SearchAnswer
-    ensures { λ r. ⌜ r ≡ searchAnswer supercode level (now (soft .entry)) limit ⌝ }
+    ensures { λ r. ⌜ Answered (searchAnswer supercode level (now (soft .entry)) limit) r ⌝ }
 {
     search_either(level, soft, limit, true)
 }

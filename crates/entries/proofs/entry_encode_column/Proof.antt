@@ -12,7 +12,7 @@ numbers-of-requires : tie.Need-numbers-of-requires
 numbers-of-requires c κs = search needs
 
 returns : tie.Need-returns
-returns c = c .numbers-of .ensures ∙ ap toldOf (c .before .encode-column .ensures)
+returns c = c .numbers-of .ensures ∙ ap toldOf (c .before .encode-column .ensures .answer)
 
 pub entry-encode-column-spec : {M : Type 1} → statement M
 entry-encode-column-spec = tie.close (tie.spec encode-column-requires numbers-of-requires returns)

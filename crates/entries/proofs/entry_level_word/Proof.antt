@@ -12,7 +12,7 @@ numbers-of-requires : tie.Need-numbers-of-requires
 numbers-of-requires c κs = search needs
 
 returns : tie.Need-returns
-returns c = c .numbers-of .ensures ∙ ap toldOf (c .before .level-word .ensures)
+returns c = c .numbers-of .ensures ∙ ap toldOf (c .before .level-word .ensures .answer)
 
 pub entry-level-word-spec : {M : Type 1} → statement M
 entry-level-word-spec = tie.close (tie.spec level-word-requires numbers-of-requires returns)

@@ -12,7 +12,7 @@ numbers-of-requires : tie.Need-numbers-of-requires
 numbers-of-requires c κs = search needs
 
 returns : tie.Need-returns
-returns c = c .numbers-of .ensures ∙ ap toldOf (c .before .reimage .ensures)
+returns c = c .numbers-of .ensures ∙ ap toldOf (c .before .reimage .ensures .answer)
 
 pub entry-reimage-spec : {M : Type 1} → statement M
 entry-reimage-spec = tie.close (tie.spec reimage-requires numbers-of-requires returns)

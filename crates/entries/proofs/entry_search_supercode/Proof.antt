@@ -12,7 +12,7 @@ numbers-of-search-requires : tie.Need-numbers-of-search-requires
 numbers-of-search-requires c κs = search needs
 
 returns : tie.Need-returns
-returns c = c .numbers-of-search .ensures ∙ ap foundOf (c .before .search-supercode .ensures)
+returns c = c .numbers-of-search .ensures ∙ ap foundOf (c .before .search-supercode .ensures .answer)
 
 pub entry-search-supercode-spec : {M : Type 1} → statement M
 entry-search-supercode-spec =

@@ -12,7 +12,7 @@ numbers-of-search-requires : tie.Need-numbers-of-search-requires
 numbers-of-search-requires c κs = search needs
 
 returns : tie.Need-returns
-returns c = c .numbers-of-search .ensures ∙ ap foundOf (c .before .search-whole .ensures)
+returns c = c .numbers-of-search .ensures ∙ ap foundOf (c .before .search-whole .ensures .answer)
 
 pub entry-search-whole-spec : {M : Type 1} → statement M
 entry-search-whole-spec =

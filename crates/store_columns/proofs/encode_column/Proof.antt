@@ -9,11 +9,12 @@ use Rattle.questions.proofs.FirstAbove.{read-in-range}
 use Rattle.store_columns.proofs.Entries.{column-of-entries}
 use native.Mathlib.Omega.{arith}
 use borrow.Author.Needs.{needs}
+use Rattle.questions.proofs.Answered.{answered}
 use Rattle.store_columns.proofs.encode_column.Statement.{statement}
 use Rattle.store_columns.proofs.encode_column.Tie as tie
 
 returns : tie.Need-returns
-returns c = simp (ne-eqb _ _ (c .if1 .taken))
+returns c = answered (simp (ne-eqb _ _ (c .if1 .taken)))
 
 first-above-requires : tie.Need-first-above-requires
 first-above-requires c κs = search needs
@@ -23,7 +24,7 @@ returns-2 c =
     let place = c .before .first-above in
     let symbols = c .before .before .before .before .args .symbols .now in
     let bad : firstAbove symbols 63 < 4 = subst (λ (t : ℕ). t < 4) (place .ensures) (c .if2 .taken) in
-    simp (eq-eqb _ _ (c .before .before .if1 .left), lt-leb _ _ bad, place .ensures)
+    answered (simp (eq-eqb _ _ (c .before .before .if1 .left), lt-leb _ _ bad, place .ensures))
 
 shared-slice-read-wide : tie.Need-shared-slice-read-wide
 shared-slice-read-wide c = search needs
@@ -75,7 +76,7 @@ returns-3 c =
     let good : 4 ≤ firstAbove symbols 63 = subst (λ (t : ℕ). 4 ≤ t) (asked .before .first-above .ensures) (asked .if2 .left) in
     let is : c .encode .result ≡ columnOf short symbols =
     column-of-entries symbols _ _ _ _ _ (first .wide .ensures) (second .wide2 .ensures) (third .wide3 .ensures) (fourth .wide4 .ensures) (c .encode .ensures) in
-    simp (eq-eqb _ _ (asked .before .before .if1 .left), le-leb _ _ good, is)
+    answered (simp (eq-eqb _ _ (asked .before .before .if1 .left), le-leb _ _ good, is))
 
 pub encode-column-spec : {M : Type 1} → statement M
 encode-column-spec =

@@ -3,7 +3,7 @@ use mathlib.Core.Path.{ap, _∙_, subst}
 use Prim.Native.Nat.{ℕ, _≤_, _<_}
 use native.Mathlib.Omega.{arith}
 use Rattle.page.specs.Outcomes.{refusedPage}
-use Rattle.readings.specs.Steps.{searchOf}
+use Rattle.search.specs.Outcomes.{searchOf}
 use Rattle.questions.specs.Questions.{firstAbove}
 use Rattle.store_pages.proofs.Asked.{no-to-1, no-to-2, no-to-4-below, no-to-4-above, no-to-5, refused-as, decoded-as}
 use Rattle.store_pages.proofs.SoftValues.{values-are-soft}
