@@ -1,5 +1,5 @@
--- The field of 2 ^ m elements by a modulus g of degree m. An element is a number below 2 ^ m, its bit k the coefficient of α ^ k; the sum is the bitwise sum.
--- 01: "powers of α with α^6 = α + 1" is m = 6, g = x ^ 6 + x + 1. Assumes nothing.
+-- 01: "The field has 64 elements, powers of α with α^6 = α + 1", which is m = 6, g = x ^ 6 + x + 1. The field of 2 ^ m elements by a modulus g of degree m:
+-- an element is a number below 2 ^ m, its bit k the coefficient of α ^ k; the sum is the bitwise sum. Assumes nothing.
 use mathlib.Core.Bool.{Bool, true, false}
 use Prim.Native.Nat.{ℕ, zero, suc, _-_, _*_, _%_, _^_, _<_}
 use lib.Dec.{T, eqb}

@@ -1,4 +1,4 @@
--- What makes a field in which each element is its own opposite. Assumes nothing.
+-- Theory: what makes a field in which each element is its own opposite. Assumes nothing.
 use mathlib.Core.Path.{_≡_}
 
 module _ {F : Type 0} (In : F → Type 0) (_⊕_ _⊗_ : F → F → F) (𝟘 𝟙 : F) (inv : F → F) where

@@ -1,4 +1,4 @@
--- A natural number as a polynomial over two elements: bit k is the coefficient of x ^ k. Assumes nothing.
+-- Theory: a natural number as a polynomial over two elements, bit k the coefficient of x ^ k. Assumes nothing.
 use mathlib.Core.Path.{_≡_}
 use Prim.Native.Nat.{ℕ, zero, suc, _*_, _/_, _%_, _^_}
 use lib.Bits.{bitXor}

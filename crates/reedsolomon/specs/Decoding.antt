@@ -1,4 +1,4 @@
--- What a decoder works out from a received word, step by step. Assumes nothing.
+-- Theory: what a decoder works out from a received word, step by step. Assumes nothing.
 use mathlib.Core.Path.{_≡_}
 use mathlib.Core.Bool.{Bool, true, false}
 use mathlib.Core.Logic.{_⊎_}

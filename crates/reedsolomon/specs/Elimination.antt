@@ -1,4 +1,4 @@
--- The search for a locator by elimination. Each row carries its combinations along, and each equation has a slot for an earlier row. Assumes nothing.
+-- Theory: the search for a locator by elimination. Each row carries its combinations along, and each equation has a slot for an earlier row. Assumes nothing.
 use mathlib.Core.Path.{_≡_}
 use Prim.Native.Nat.{ℕ, _+_, _≤_, _<_}
 use Rattle.reedsolomon.specs.Sums.{sum}

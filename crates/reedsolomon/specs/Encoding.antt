@@ -1,4 +1,4 @@
--- Encoding: the data are divided by the generator, and the remainder follows them. Assumes nothing.
+-- Theory: encoding divides the data by the generator, and the remainder follows them. Assumes nothing.
 use mathlib.Core.Path.{_≡_}
 use Prim.Native.Nat.{ℕ, suc, _≤_, _<_}
 use Rattle.reedsolomon.specs.Sums.{power, value}

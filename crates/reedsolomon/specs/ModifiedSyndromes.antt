@@ -1,4 +1,4 @@
--- Modified syndromes: locators taken out of a sequence of power sums, one after the other. Assumes nothing.
+-- Theory: modified syndromes, locators taken out of a sequence of power sums, one after the other. Assumes nothing.
 use mathlib.Core.Path.{_≡_}
 use mathlib.Core.Bool.{Bool, true, false}
 use Prim.Native.Nat.{ℕ, zero, suc, _+_, _<_}

@@ -1,4 +1,4 @@
--- A polynomial that is built in a sequence, one locator after the other, by the step that modifies syndromes. Assumes nothing.
+-- Theory: a polynomial that is built in a sequence, one locator after the other, by the step that modifies syndromes. Assumes nothing.
 use mathlib.Core.Path.{_≡_}
 use mathlib.Core.Bool.{Bool}
 use Prim.Native.Nat.{ℕ, suc, _+_, _≤_, _<_}

@@ -1,4 +1,4 @@
--- What is to be added at an error location: synthetic division of the error locations' product polynomial, and one dot product. Assumes nothing.
+-- Theory: what is to be added at an error location, by synthetic division of the error locations' product polynomial and one dot product. Assumes nothing.
 use Prim.Native.Nat.{ℕ, zero, suc, _-_}
 use Rattle.reedsolomon.specs.Sums.{value}
 

@@ -8,7 +8,7 @@ use lib.ListN.{getD}
 unfoldable pub shortRoots : ℕ → ℕ
 shortRoots level = getD (30 ∷ 12 ∷ 6 ∷ 4 ∷ []) level 0
 
--- t is T of some level
+-- For the code's contracts: t is T of some level.
 pub record RowRoots (t : ℕ) : Type 0 where
   pub level : ℕ
   pub level-exists : level < 4

@@ -1,4 +1,4 @@
--- What the code's steps do to lists of symbols. Assumes nothing.
+-- For the code's contracts: what its steps do to lists of symbols. Assumes nothing.
 use mathlib.Core.Path.{_≡_}
 use mathlib.Core.Bool.{Bool, true, false}
 use mathlib.Core.Logic.{_⊎_}

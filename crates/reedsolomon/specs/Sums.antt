@@ -1,4 +1,4 @@
--- Sums, powers and polynomials over any sum and product. Assumes nothing.
+-- Theory: sums, powers and polynomials over any sum and product. Assumes nothing.
 use Prim.Native.Nat.{ℕ, zero, suc, _-_}
 
 -- f 0 + .. + f (n - 1)

@@ -1,4 +1,4 @@
--- Codewords, erased columns, and the words in reach of a received word. Assumes nothing.
+-- 01: "the codeword with 2·e + s ≤ T": codewords, erased columns, and the words in reach of a received word, over any field. Assumes nothing.
 use mathlib.Core.Path.{_≡_}
 use mathlib.Core.Bool.{Bool, true, false}
 use Prim.Native.Nat.{ℕ, zero, suc, _+_, _*_, _≤_, _<_}

@@ -1,4 +1,4 @@
--- The answers of the row calls. Assumes nothing.
+-- 01: "Questions put to every call", of the row calls. Assumes nothing.
 use mathlib.Core.Bool.{Bool, true, cond}
 use mathlib.Core.List.{List}
 use Prim.Native.Nat.{ℕ, _+_, _-_}

@@ -1,4 +1,4 @@
--- Symbols of six bits in one number, the first lowest, and such a number in three words of ten symbols. Assumes nothing.
+-- For the code's contracts: symbols of six bits in one number, the first lowest, and such a number in three words of ten symbols. Assumes nothing.
 use mathlib.Core.Path.{_≡_}
 use mathlib.Core.List.{List}
 use Prim.Native.Nat.{ℕ, zero, suc, _+_, _*_, _/_, _%_, _^_, _<_}
