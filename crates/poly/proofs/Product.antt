@@ -1,13 +1,13 @@
 -- The product is commutative and associative, has 1, and distributes over the sum. Assumes nothing.
-use mathlib.Core.Path.{_≡_, refl, sym, ap, ap₂, _∙_, subst}
-use Prim.Native.Nat.{ℕ, zero, suc, _+_, _-_, _*_, _/_, _%_, _^_, _≤_, _<_}
+use mathlib.Core.Path.{_≡_, refl, sym, ap, ap₂, _∙_}
+use Prim.Native.Nat.{ℕ, zero, suc, _-_, _*_, _/_, _%_, _^_, _≤_, _<_}
 use native.Mathlib.Nat
 use native.Mathlib.Nat.{le-refl, not-suc-le-zero, mod-lt, zero-lt-suc, pow-suc}
 use native.Mathlib.Decide.{le-ind}
 use native.Mathlib.Omega.{arith}
 use lib.Arith.{bin-ind, half-le}
 use Rattle.poly.specs.Polynomial.{add, scale, productIn, product}
-use Rattle.poly.proofs.Sum.{Linear, linear-zero, add-zero-l, add-zero-r, add-swap, add-half, add-double, add-digit, add-lt, scale-add, scale-odd, scale-double, scale-lt}
+use Rattle.poly.proofs.Sum.{Linear, linear-zero, add-zero-l, add-zero-r, add-swap, add-half, add-double, add-digit, scale-add, scale-odd, scale-double}
 
 -- more room for digits changes nothing
 product-more : (n a b : ℕ) → b ≤ n → productIn (suc n) a b ≡ productIn n a b
@@ -143,19 +143,3 @@ product-pow a zero = product-one-r a ∙ sym (Nat.mul-one a)
 product-pow a (suc k) =
     ap (product a) (pow-suc 2 k) ∙ product-double-r a (2 ^ k) ∙ ap (λ (t : ℕ). t * 2) (product-pow a k) ∙ Nat.mul-assoc a (2 ^ k) 2
     ∙ ap (λ (t : ℕ). a * t) (sym (pow-suc 2 k))
-
--- a product has no more digits than its factors together
-pub product-lt : (i j a b : ℕ) → a < 2 ^ i → b < 2 ^ j → product a b < 2 ^ (i + j)
-product-lt i zero a b ha hb =
-    let e : b ≡ 0 = omega arith in
-    subst (λ (t : ℕ). t < 2 ^ (i + 0)) (sym (ap (product a) e ∙ product-zero-r a)) (lib.Pow.pow-pos (i + 0))
-product-lt i (suc j) a b ha hb =
-    subst (λ (t : ℕ). t < 2 ^ (i + suc j)) (sym (product-step a b))
-    (add-lt (i + suc j) (product a (b / 2) * 2) (scale (b % 2) a) (twice (product-lt i j a (b / 2) ha (omega (arith, pow-suc 2 j))))
-    (scale-lt (i + suc j) (b % 2) a (Nat.lt-of-lt-of-le ha (lib.Pow.pow-mono wider))))
-  where
-    wider : i ≤ i + suc j
-    wider = omega arith
-
-    twice : {p : ℕ} → p < 2 ^ (i + j) → p * 2 < 2 ^ (i + suc j)
-    twice {p} h = rw (Nat.add-suc i j, pow-suc 2 (i + j)) (omega arith)

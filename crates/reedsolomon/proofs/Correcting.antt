@@ -20,8 +20,7 @@ use Rattle.reedsolomon.specs.Steps.{Entries, Padded, locatorSum, Summed,
 use Rattle.reedsolomon.proofs.FieldFacts.{mul-zero, zero-mul}
 use Rattle.reedsolomon.proofs.Sums.{sum-without-end}
 use Rattle.reedsolomon.proofs.Syndromes.{syndrome-is-sum, syndrome-of-sum, syndrome-of-equals}
-use Rattle.reedsolomon.proofs.Counting.{count-of-all, count-of-marked, count-of-unmarked}
-use Rattle.reedsolomon.proofs.Listing.{fewer-marks-before}
+use Rattle.reedsolomon.proofs.Counting.{count-of-all, count-of-marked, count-of-unmarked, fewer-marks-before}
 use Rattle.reedsolomon.proofs.Polynomials.{value-in}
 use Rattle.reedsolomon.proofs.Powers.{position-in, positions-are-distinct}
 use Rattle.reedsolomon.proofs.Product.{product-has-marked-roots}

@@ -44,15 +44,22 @@ pub count-of-unmarked : (E : ℕ → Bool) (n : ℕ) → E n ≡ false → count
 unfolding count indicator
 count-of-unmarked E n e = ap (λ (b : Bool). count E n + indicator b) e ∙ native.Mathlib.Nat.add-zero (count E n)
 
-pub count-positive : (E : ℕ → Bool) (n l : ℕ) → l < n → E l ≡ true → 0 < count E n
+-- there are fewer marks before a marked column than after it
+pub fewer-marks-before : (U : ℕ → Bool) (n j : ℕ) → j < n → U j ≡ true → count U j < count U n
 unfolding count indicator
-count-positive E zero l h e = absurd (not-suc-le-zero h)
-count-positive E (suc n) l h e =
-    ⊎-elim (λ q. let b : indicator (E n) ≡ 1 = ap indicator (ap E (sym (suc-inj q)) ∙ e) in omega arith)
-    (λ q. omega (arith, count-positive E n l (le-of-suc-le-suc q) e))
-    (eq-or-lt-of-le h)
+fewer-marks-before U zero j l e = absurd (not-suc-le-zero l)
+fewer-marks-before U (suc n) j l e =
+    ⊎-elim
+    (λ q.
+    let a : count U j ≡ count U n = ap (count U) (suc-inj q) in
+    let b : indicator (U n) ≡ 1 = ap indicator (ap U (sym (suc-inj q)) ∙ e) in
+    omega arith)
+    (λ q. omega (arith, fewer-marks-before U n j (le-of-suc-le-suc q) e))
+    (eq-or-lt-of-le l)
 
--- every one of n is marked
+pub count-positive : (E : ℕ → Bool) (n l : ℕ) → l < n → E l ≡ true → 0 < count E n
+count-positive E n l h e = omega (arith, fewer-marks-before E n l h e)
+
 pub count-of-all : (n : ℕ) → count (λ j. true) n ≡ n
 unfolding count indicator
 count-of-all zero = refl

@@ -7,9 +7,8 @@ use native.Mathlib.Omega.{arith}
 use Rattle.field.specs.Laws.{Field}
 use Rattle.reedsolomon.specs.Sums.{sum, power, powerSum}
 use Rattle.reedsolomon.specs.Words.{Elements, Distinct, unequal, nonzeros}
-use Rattle.reedsolomon.proofs.FieldFacts.{zero-sum, mul-zero, zero-mul, no-divisor}
-use Rattle.reedsolomon.proofs.Sums.{sum-of-equals, sum-of-zeros}
-use Rattle.reedsolomon.proofs.Powers.{power-in, power-not-zero, power-of-sum}
+use Rattle.reedsolomon.proofs.FieldFacts.{zero-sum, mul-zero, zero-mul}
+use Rattle.reedsolomon.proofs.Sums.{sum-of-zeros}
 use Rattle.reedsolomon.proofs.Counting.{nonzeros-fewer}
 use Rattle.reedsolomon.proofs.PowerSums.{modified-power-sum, no-weight-at-modified-locator, weight-at-other-locator}
 
@@ -97,15 +96,3 @@ module _ {F : Type 0} {In : F → Type 0} {_⊕_ _⊗_ : F → F → F} {𝟘 �
   pub zero-power-sums-leave-no-weights : (n k : ℕ) (c X : ℕ → F) → Elements In n c → Elements In n X → Distinct n X → nonzeros same 𝟘 n c ≤ k
       → ((i : ℕ) → i < k → power-sum n c X i ≡ 𝟘) → (j : ℕ) → j < n → c j ≡ 𝟘
   zero-power-sums-leave-no-weights n = no-weights n
-
-  -- The same for k power sums from any index a on, at locators other than 0.
-  pub consecutive-zero-power-sums-leave-no-weights : (n k a : ℕ) (c X : ℕ → F) → Elements In n c → Elements In n X → Distinct n X
-      → ((j : ℕ) → j < n → X j ≡ 𝟘 → ⊥)
-      → nonzeros same 𝟘 n c ≤ k → ((i : ℕ) → i < k → power-sum n c X (a + i) ≡ 𝟘) → (j : ℕ) → j < n → c j ≡ 𝟘
-  consecutive-zero-power-sums-leave-no-weights n k a c X hc hx hd hz hk h j l =
-      no-divisor K (c j) (X j ^^ a) (hc j l) (power-in K (X j) a) (power-not-zero K (X j) (hx j l) (hz j l) a)
-      (no-weights n k (λ m. c m ⊗ X m ^^ a) X (λ m u. in-mul (c m) (X m ^^ a)) hx hd
-      (le-trans (nonzeros-fewer same 𝟘 n c (λ m. c m ⊗ X m ^^ a) (λ m u e. ap (λ (t : F). t ⊗ X m ^^ a) e ∙ zero-mul K (X m ^^ a))) hk)
-      (λ i u. sum-of-equals K n (λ m. c m ⊗ X m ^^ a ⊗ X m ^^ i) (λ m. c m ⊗ X m ^^ (a + i))
-      (λ m y. mul-assoc (c m) (X m ^^ a) (X m ^^ i) ∙ ap (λ (t : F). c m ⊗ t) (sym (power-of-sum K (X m) a i))) ∙ h i u)
-      j l)

@@ -14,7 +14,6 @@ pub mod Reach
 pub mod Locator
 pub mod Encoding
 pub mod Elimination
-pub mod Listing
 pub mod Decoding
 pub mod Finding
 pub mod Answers

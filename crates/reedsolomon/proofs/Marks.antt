@@ -17,8 +17,7 @@ use Rattle.poly.specs.Polynomial.{add}
 use Rattle.reedsolomon.specs.Words.{indicator, count, errors, wrong}
 use Rattle.reedsolomon.specs.Row.{symbol, marked}
 use Rattle.reedsolomon.specs.Steps.{locatorAt, Flagged, LocatorsOf, Added}
-use Rattle.reedsolomon.proofs.Counting.{true-is-not-false, count-of-marked, count-of-unmarked, unequal-at-most-one, unequal-of-equal}
-use Rattle.reedsolomon.proofs.Listing.{fewer-marks-before}
+use Rattle.reedsolomon.proofs.Counting.{true-is-not-false, count-of-marked, count-of-unmarked, fewer-marks-before, unequal-at-most-one, unequal-of-equal}
 
 module _ (marks : List ℕ) (j : ℕ) where
   pub is-marked : symbol marks j ≡ 1 → marked marks j ≡ true

@@ -9,7 +9,7 @@ use Rattle.field.specs.Laws.{Field}
 use Rattle.reedsolomon.specs.Sums.{position}
 use Rattle.reedsolomon.specs.Words.{Elements, Codeword, OrderAtLeast, indicator, count, unequal, wrong, nonzeros, errors, InReach}
 use Rattle.reedsolomon.proofs.FieldFacts.{zero-mul, sum-cancel, no-divisor}
-use Rattle.reedsolomon.proofs.Counting.{true-is-not-false, unequal-at-most-one, unequal-of-equal, unequal-of-different}
+use Rattle.reedsolomon.proofs.Counting.{unequal-at-most-one, unequal-of-equal}
 use Rattle.reedsolomon.proofs.Powers.{position-in, position-not-zero, positions-are-distinct}
 use Rattle.reedsolomon.proofs.Deletion.{zero-power-sums-leave-no-weights}
 use Rattle.reedsolomon.proofs.Syndromes.{syndrome-of-difference}
@@ -27,22 +27,6 @@ module _ {F : Type 0} (same : (a b : F) → Dec (a ≡ b)) (E : ℕ → Bool) wh
       one-column : (b : Bool) → (b ≡ false → w n ≡ v n) → (b ≡ false → c n ≡ d n) → wrong b (same (w n) (c n)) ≡ wrong b (same (v n) (d n))
       one-column true hw hc = unfold wrong in refl
       one-column false hw hc = ap₂ (λ (x y : F). wrong false (same x y)) (hw refl) (hc refl)
-
-  -- the errors are as many as the marks B, where B marks the columns that are not erased and have unequal symbols
-  pub errors-are-marks : (B : ℕ → Bool) (n : ℕ) (w c : ℕ → F) → ((j : ℕ) → j < n → B j ≡ true → (E j ≡ false) × (w j ≡ c j → ⊥))
-      → ((j : ℕ) → j < n → B j ≡ false → E j ≡ false → w j ≡ c j) → errors same E n w c ≡ count B n
-  unfolding errors count
-  errors-are-marks B zero w c h z = refl
-  errors-are-marks B (suc n) w c h z =
-      ap₂ _+_ (errors-are-marks B n w c (λ j l. h j (le-trans l (le-suc n))) (λ j l. z j (le-trans l (le-suc n))))
-      (one-column (B n) (E n) (same (w n) (c n)) (h n (lt-suc-self n)) (z n (lt-suc-self n)))
-    where
-      one-column : (b e : Bool) {A : Type 0} (d : Dec A) → (b ≡ true → (e ≡ false) × (A → ⊥)) → (b ≡ false → e ≡ false → A)
-          → wrong e d ≡ indicator b
-      one-column true true d h z = absurd (true-is-not-false (h refl .0))
-      one-column true false d h z = unfold wrong indicator in unequal-of-different d (h refl .1)
-      one-column false true d h z = unfold wrong indicator in refl
-      one-column false false d h z = unfold wrong indicator in unequal-of-equal d (z refl refl)
 
   pub reach-of-equals : (N T : ℕ) (w v c d : ℕ → F) → ((j : ℕ) → j < N → E j ≡ false → w j ≡ v j)
       → ((j : ℕ) → j < N → E j ≡ false → c j ≡ d j)

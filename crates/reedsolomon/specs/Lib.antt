@@ -5,7 +5,6 @@ pub mod Quotient
 pub mod Product
 pub mod Encoding
 pub mod Elimination
-pub mod Listing
 pub mod Decoding
 pub mod Search
 pub mod Row

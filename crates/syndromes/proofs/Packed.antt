@@ -1,11 +1,11 @@
 -- Symbols in one number and in three words: sums and shifts take them one by one. Assumes nothing.
 use mathlib.Core.Path.{_≡_, sym, ap, ap₂, _∙_}
 use Prim.Native.Nat.{ℕ, suc, _+_, _*_, _/_, _%_, _^_, _≤_, _<_}
-use native.Mathlib.Nat.{mod-lt, div-one, div-eq-of-lt, lt-of-lt-of-le}
+use native.Mathlib.Nat.{div-one, div-eq-of-lt, lt-of-lt-of-le}
 use native.Mathlib.Omega.{arith}
 use lib.Arith.{digits-lt}
 use lib.Bits.{bitXor, xor-block}
-use lib.Pow.{pow-pos, pow-mono, shr-shr}
+use lib.Pow.{pow-mono, shr-shr}
 use Rattle.poly.specs.Polynomial.{add}
 use Rattle.poly.proofs.Sum.{Linear, add-shr, add-mod}
 use Rattle.syndromes.specs.Packed.{symbolIn, joined}
@@ -21,10 +21,6 @@ first-symbol n = ap (λ (t : ℕ). t % 2 ^ 6) (div-one n)
 pub symbol-behind : (n i : ℕ) → symbolIn (n / 2 ^ 6) i ≡ symbolIn n (suc i)
 unfolding symbolIn
 symbol-behind n i = let e : 6 + 6 * i ≡ 6 * suc i = omega arith in ap (λ (t : ℕ). t % 2 ^ 6) (shr-shr n 6 (6 * i) ∙ ap (λ (t : ℕ). n / 2 ^ t) e)
-
-pub symbol-lt : (n i : ℕ) → symbolIn n i < 2 ^ 6
-unfolding symbolIn
-symbol-lt n i = mod-lt (n / 2 ^ (6 * i)) (pow-pos 6)
 
 -- the number of three words has thirty symbols
 pub no-symbol-more : (a b c i : ℕ) → a < 2 ^ 60 → b < 2 ^ 60 → c < 2 ^ 60 → 30 ≤ i → symbolIn (joined a b c) i ≡ 0
