@@ -12,6 +12,7 @@ use Rattle.reedsolomon.specs.Words.{Codeword, count, errors, InReach}
 use Rattle.reedsolomon.specs.Search.{OuterAnswer, Found, NoneInReach}
 use Rattle.reedsolomon.specs.Row.{symbol, Symbols, marked, IsCodeword, outerAnswer, isFound, wordOf, RowDecoded}
 use Rattle.reedsolomon.specs.Steps.{WrittenAt, Padded, HasSyndromes, IsCorrection}
+use Rattle.reedsolomon.proofs.Fill.{put-inside}
 use Rattle.reedsolomon.proofs.Reach.{reach-of-equals, reach-bounds-erasures}
 use Rattle.reedsolomon.proofs.Syndromes.{codeword-of-equals}
 use Rattle.reedsolomon.proofs.Decoding.{failed-check-means-none-in-reach}
@@ -34,15 +35,9 @@ decoded-none a old e = record { told = sym (ap isFound e); written = sym (ap (wo
 pub padded-row : (m N n : ℕ) (symbols w : List ℕ) → length symbols ≡ N → Symbols m symbols → WrittenAt 0 N (symbol symbols) (replicate n 0) w → 0 < 2 ^ m → Padded m N w
 padded-row m N n symbols w long h f pos =
     record {
-      inside = λ j. elim (native.Mathlib.Decide.decLe N j) [
-        | yes l ↦ subst (λ (x : ℕ). x < 2 ^ m) (sym (behind j l)) pos
-        | no l ↦ subst (λ (x : ℕ). x < 2 ^ m) (sym (at-front f j (native.Mathlib.Nat.lt-of-not-le l))) (h j)
-      ];
-      ended = behind;
+      inside = put-inside m 0 N (symbol symbols) (replicate n 0) w (λ j. subst (λ (x : ℕ). x < 2 ^ m) (sym (zeros-at n j)) pos) (λ j l. h j) f;
+      ended = λ j l. f .after j (omega arith) ∙ zeros-at n j;
     }
-  where
-    behind : (j : ℕ) → N ≤ j → symbol w j ≡ 0
-    behind j l = f .after j (omega arith) ∙ zeros-at n j
 
 module _ (m g N T : ℕ) (t : Primitive m g) (few : N < 2 ^ m) (w marks : List ℕ) where
   abbrev answer : OuterAnswer

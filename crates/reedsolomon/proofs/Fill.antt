@@ -1,13 +1,16 @@
 -- Loops that write a list entry by entry. Assumes nothing.
-use mathlib.Core.Path.{_≡_, refl, sym, ap, _∙_, subst}
+use mathlib.Core.Path.{_≡_, refl, sym, ap, ap₂, _∙_, subst, subst⁻¹}
 use mathlib.Core.Logic.{⊎-elim}
 use mathlib.Core.List.{List}
-use Prim.Native.Nat.{ℕ, _+_, _-_, _*_, _^_, _<_}
+use Prim.Native.Nat.{ℕ, _+_, _-_, _*_, _^_, _≤_, _<_}
 use native.Mathlib.Numerals.{add-one}
-use native.Mathlib.Nat.{not-suc-le-zero, eq-or-lt-of-le, lt-irrefl}
+use native.Mathlib.Nat.{not-suc-le-zero, eq-or-lt-of-le, lt-irrefl, le-refl}
 use native.Mathlib.Omega.{arith}
-use lib.ListN.{length, set}
+use lib.Bits.{bitXor}
+use lib.ListN.{length, set, List·getD-eq-default}
 use lib.Seq.{getD-set-same, getD-set-other}
+use lib.Pow.{pow-pos}
+use Rattle.poly.specs.Polynomial.{add}
 use Rattle.poly.proofs.Sum.{lt-or-le}
 use Rattle.reedsolomon.specs.Row.{symbol, Symbols}
 use Rattle.reedsolomon.specs.Steps.{Entries, Written, WrittenAt}
@@ -26,6 +29,12 @@ one-more-written f c₀ j c v w h e =
           (eq-or-lt-of-le l);
       kept = λ k l. getD-set-other c j k v 0 (λ y. lt-irrefl j (omega arith)) ∙ w .kept k (omega arith);
     }
+
+-- entry j is added to
+pub one-more-added : (f : ℕ → ℕ) (c₀ : List ℕ) (j : ℕ) (c : List ℕ) (v : ℕ) → Written j (λ i. add (symbol c₀ i) (f i)) c₀ c → j < length c → v ≡ f j
+    → Written (j + 1) (λ i. add (symbol c₀ i) (f i)) c₀ (set c j (bitXor (symbol c j) v))
+unfolding add
+one-more-added f c₀ j c v w h e = one-more-written (λ i. add (symbol c₀ i) (f i)) c₀ j c (bitXor (symbol c j) v) w h (ap₂ bitXor (w .kept j (le-refl j)) e)
 
 pub nothing-written-at : (a : ℕ) (f : ℕ → ℕ) (c : List ℕ) → WrittenAt a 0 f c c
 nothing-written-at a f c = record { written = λ k h. absurd (not-suc-le-zero h); before = λ k h. refl; after = λ k h. refl }

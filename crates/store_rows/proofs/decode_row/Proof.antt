@@ -1,10 +1,13 @@
 -- `store_rows::decode_row` meets its contract: each return rewrites with the tests that led there. Assumes nothing.
 use mathlib.Core.Path.{_≡_, sym, ap, _∙_, subst}
+use mathlib.Core.Bool.{Bool}
 use Prim.Native.Nat.{ℕ, _≤_, _<_}
 use borrow.Author.Tests.{le-ltb, lt-ltb, le-leb, lt-leb, eq-eqb, ne-eqb}
-use Rattle.reedsolomon.specs.Row.{outerAnswer, wordOf, isFound}
-use Rattle.questions.specs.Questions.{firstAbove}
-use Rattle.store_rows.proofs.RowRanges.{symbols-in-range, none-written}
+use Rattle.reedsolomon.specs.Row.{outerAnswer, wordOf}
+use Rattle.questions.specs.Questions.{ask, firstAbove}
+use Rattle.questions.specs.declared.Outcome.the-variants.{Done, Refused}
+use Rattle.store_rows.specs.Rows.{decodeRowAnswer}
+use Rattle.store_rows.proofs.RowRanges.{symbols-in-range, only-10-is-left, none-written}
 use Rattle.questions.proofs.Filled.{refused, refused-unwritten, done}
 use borrow.Author.Needs.{needs}
 use Rattle.store_rows.proofs.decode_row.Statement.{statement}
@@ -69,45 +72,40 @@ decode-requires c κs =
       roots .roots .ensures .1,
     )
 
+-- the decoder was asked last
+abbrev start : tie.After-decode → tie.Start
+start c = c .before .before .before .before .before .before .before .before .before .before .before .before .before .before
+
+left-to-ask : (c : tie.After-decode)
+    → decodeRowAnswer (start c .args .level) (start c .args .symbols .now) (start c .args .marks .now) (start c .args .out .now) ≡ ask (c .decode .result) (Refused 10 0) Done
+left-to-ask c =
+    let roots = c .before .before in
+    let last = roots .before in
+    let good = last .before .before in
+    let asked = good .before .before in
+    let right : 63 ≤ firstAbove (start c .args .symbols .now) 63 = rw (good .before .first-above .ensures) at (good .if5 .left) in
+    let flags : 63 ≤ firstAbove (start c .args .marks .now) 1 = rw (last .before .first-above2 .ensures) at (last .if6 .left) in
+    only-10-is-left _ _ _ (start c .args .out .now) _ _ (asked .before .before .before .if1 .left) (asked .before .before .if2 .left) (asked .before .if3 .left) (asked .if4 .left) right flags
+    (roots .roots .ensures .0) (c .decode .ensures .told)
+
 same-length : tie.Need-same-length
 same-length c = search needs
 
 returns-7 : tie.Need-returns-7
 returns-7 c =
-    let roots = c .before .before .before .before .before in
-    let last = roots .before in
-    let good = last .before .before in
-    let asked = good .before .before in
-    let start = asked .before .before .before .before .before .before .before in
-    let symbols = start .args .symbols .now in
-    let marks = start .args .marks .now in
-    let decoded = c .before .before .before .decode in
-    let same = ap (λ (t : ℕ). outerAnswer 6 67 63 t symbols marks) (roots .roots .ensures .0) in
-    let right : 63 ≤ firstAbove symbols 63 = rw (good .before .first-above .ensures) at (good .if5 .left) in
-    let flags : 63 ≤ firstAbove marks 1 = rw (last .before .first-above2 .ensures) at (last .if6 .left) in
-    let told = sym (ap isFound same) ∙ sym (decoded .ensures .told) ∙ c .if7 .taken in
-    let written = decoded .ensures .written ∙ ap (wordOf (start .args .out .now)) same in
-    done (simp (eq-eqb _ _ (asked .before .before .before .if1 .left), eq-eqb _ _ (asked .before .before .if2 .left), eq-eqb _ _ (asked .before .if3 .left), lt-ltb _ _ (asked .if4 .left), le-leb _ _ right, le-leb _ _ flags, told)) written
+    let given = c .before .before .before in
+    let s = start given in
+    let same = ap (λ (t : ℕ). wordOf (s .args .out .now) (outerAnswer 6 67 63 t (s .args .symbols .now) (s .args .marks .now))) (given .before .before .roots .ensures .0) in
+    done (left-to-ask given ∙ ap (λ (b : Bool). ask b (Refused 10 0) Done) (c .if7 .taken)) (given .decode .ensures .written ∙ same)
 
 same-length-2 : tie.Need-same-length-2
 same-length-2 c = search needs
 
 returns-8 : tie.Need-returns-8
 returns-8 c =
-    let roots = c .before .before .before .before .before in
-    let last = roots .before in
-    let good = last .before .before in
-    let asked = good .before .before in
-    let start = asked .before .before .before .before .before .before .before in
-    let symbols = start .args .symbols .now in
-    let marks = start .args .marks .now in
-    let decoded = c .before .before .before .decode in
-    let same = ap (λ (t : ℕ). outerAnswer 6 67 63 t symbols marks) (roots .roots .ensures .0) in
-    let right : 63 ≤ firstAbove symbols 63 = rw (good .before .first-above .ensures) at (good .if5 .left) in
-    let flags : 63 ≤ firstAbove marks 1 = rw (last .before .first-above2 .ensures) at (last .if6 .left) in
-    let told = sym (ap isFound same) ∙ sym (decoded .ensures .told) ∙ c .if7 .left in
-    let written = decoded .ensures .written ∙ ap (wordOf (start .args .out .now)) same in
-    refused-unwritten (simp (eq-eqb _ _ (asked .before .before .before .if1 .left), eq-eqb _ _ (asked .before .before .if2 .left), eq-eqb _ _ (asked .before .if3 .left), lt-ltb _ _ (asked .if4 .left), le-leb _ _ right, le-leb _ _ flags, told)) (none-written _ _ _ told written)
+    let given = c .before .before .before in
+    refused-unwritten (left-to-ask given ∙ ap (λ (b : Bool). ask b (Refused 10 0) Done) (c .if7 .left))
+    (none-written _ _ _ (sym (given .decode .ensures .told) ∙ c .if7 .left) (given .decode .ensures .written))
 
 pub decode-row-spec : {M : Type 1} → statement M
 decode-row-spec =
