@@ -1,7 +1,7 @@
 -- The short page: 63 columns, roots 30, 12, 6, 4, 150 bytes of data. Assumes nothing.
 use mathlib.Core.List.{List, [], _∷_}
 use mathlib.Core.Path.{_≡_, refl}
-use Prim.Native.Nat.{ℕ, zero, suc, _<_}
+use Prim.Native.Nat.{ℕ, zero, suc}
 use native.Mathlib.Omega.{arith}
 use lib.ListN.{length}
 use Rattle.column.specs.Shape.{short, generator}
