@@ -1,6 +1,6 @@
 -- What the questions of the page decoders lead to: the first no, or page decoding. Assumes nothing.
 use mathlib.Core.List.{List}
-use mathlib.Core.Path.{_≡_, _∙_}
+use mathlib.Core.Path.{_≡_, ap₂, _∙_}
 use Prim.Native.Nat.{ℕ, _≤_, _<_}
 use borrow.Author.Tests.{eq-eqb, ne-eqb, le-leb, lt-leb}
 use lib.ListN.{length}
@@ -34,8 +34,8 @@ module _ (soft : List ℕ) (limit : ℕ) (old : List ℕ) where
   all-yes long room some most good A refusal next = simp (eq-eqb _ _ long, eq-eqb _ _ room, le-leb _ _ some, le-leb _ _ most, le-leb _ _ good)
 
   -- so a decoder that gives the refusal and keeps the data, or decodes the page, gives what is due
-  pub refused-as : (s : Search) (n p : ℕ) → FirstNo n p → (r : PageOutcome) → r ≡ refusedPage n p → PageDecoded s soft limit old r old
-  refused-as s n p asked r e = record { answer = e ∙ asked PageOutcome refusedPage (outcomeOf (decodedPage s soft limit)); bytes = asked (List ℕ) (λ n p. old) (dataAfter old (decodedPage s soft limit)) }
+  pub refused-as : (s : Search) (n p : ℕ) → FirstNo n p → (r : PageOutcome) (m q : ℕ) → r ≡ refusedPage m q → m ≡ n → q ≡ p → PageDecoded s soft limit old r old
+  refused-as s n p asked r m q e em eq = record { answer = e ∙ ap₂ refusedPage em eq ∙ asked PageOutcome refusedPage (outcomeOf (decodedPage s soft limit)); bytes = asked (List ℕ) (λ n p. old) (dataAfter old (decodedPage s soft limit)) }
 
   pub decoded-as : (s : Search) → length soft ≡ 1890 → length old ≡ 150 → 1 ≤ limit → limit ≤ 2000 → 1890 ≤ firstAbove soft 7
       → (r : PageOutcome) (new : List ℕ) → r ≡ outcomeOf (decodedPage s soft limit) → new ≡ dataAfter old (decodedPage s soft limit) → PageDecoded s soft limit old r new

@@ -1,8 +1,7 @@
 -- `store_pages::decode_either` meets its contract: each return cites the questions that led there. Assumes nothing.
-use mathlib.Core.Path.{ap, _∙_, subst}
+use mathlib.Core.Path.{refl, subst}
 use Prim.Native.Nat.{ℕ, _≤_, _<_}
 use native.Mathlib.Omega.{arith}
-use Rattle.page.specs.Outcomes.{refusedPage}
 use Rattle.search.specs.Outcomes.{searchOf}
 use Rattle.questions.specs.Questions.{firstAbove}
 use Rattle.store_pages.proofs.Asked.{no-to-1, no-to-2, no-to-4-below, no-to-4-above, no-to-5, refused-as, decoded-as}
@@ -19,7 +18,7 @@ returns c =
     let args = c .before .before .before .before .args in
     let soft = args .soft .now in
     let old = args .«data» .now in
-    refused-as soft (args .limit) old (searchOf (args .in-supercodes)) 1 0 (no-to-1 soft (args .limit) old (c .before .if1 .taken)) _ (c .refused .ensures)
+    refused-as soft (args .limit) old (searchOf (args .in-supercodes)) 1 0 (no-to-1 soft (args .limit) old (c .before .if1 .taken)) _ _ _ (c .refused .ensures) refl refl
 
 refused-requires-2 : tie.Need-refused-requires-2
 refused-requires-2 c κs = search needs
@@ -29,7 +28,7 @@ returns-2 c =
     let args = c .before .before .before .before .before .args in
     let soft = args .soft .now in
     let old = args .«data» .now in
-    refused-as soft (args .limit) old (searchOf (args .in-supercodes)) 2 0 (no-to-2 soft (args .limit) old (c .before .before .if1 .left) (c .before .if2 .taken)) _ (c .refused2 .ensures)
+    refused-as soft (args .limit) old (searchOf (args .in-supercodes)) 2 0 (no-to-2 soft (args .limit) old (c .before .before .if1 .left) (c .before .if2 .taken)) _ _ _ (c .refused2 .ensures) refl refl
 
 refused-requires-3 : tie.Need-refused-requires-3
 refused-requires-3 c κs = search needs
@@ -39,7 +38,7 @@ returns-3 c =
     let args = c .before .before .before .before .before .before .args in
     let soft = args .soft .now in
     let old = args .«data» .now in
-    refused-as soft (args .limit) old (searchOf (args .in-supercodes)) 4 0 (no-to-4-below soft (args .limit) old (c .before .before .before .if1 .left) (c .before .before .if2 .left) (omega (arith, c .before .if3 .taken))) _ (c .refused3 .ensures)
+    refused-as soft (args .limit) old (searchOf (args .in-supercodes)) 4 0 (no-to-4-below soft (args .limit) old (c .before .before .before .if1 .left) (c .before .before .if2 .left) (omega (arith, c .before .if3 .taken))) _ _ _ (c .refused3 .ensures) refl refl
 
 refused-requires-4 : tie.Need-refused-requires-4
 refused-requires-4 c κs = search needs
@@ -49,7 +48,7 @@ returns-4 c =
     let args = c .before .before .before .before .before .before .before .args in
     let soft = args .soft .now in
     let old = args .«data» .now in
-    refused-as soft (args .limit) old (searchOf (args .in-supercodes)) 4 0 (no-to-4-above soft (args .limit) old (c .before .before .before .before .if1 .left) (c .before .before .before .if2 .left) (omega (arith, c .before .before .if3 .left)) (omega (arith, c .before .if4 .taken))) _ (c .refused4 .ensures)
+    refused-as soft (args .limit) old (searchOf (args .in-supercodes)) 4 0 (no-to-4-above soft (args .limit) old (c .before .before .before .before .if1 .left) (c .before .before .before .if2 .left) (omega (arith, c .before .before .if3 .left)) (omega (arith, c .before .if4 .taken))) _ _ _ (c .refused4 .ensures) refl refl
 
 first-above-requires : tie.Need-first-above-requires
 first-above-requires c κs = search needs
@@ -66,8 +65,8 @@ returns-5 c =
     let old = args .«data» .now in
     let bad : firstAbove soft 7 < 1890 = subst (λ (t : ℕ). t < 1890) (place .ensures) (c .before .if5 .taken) in
     refused-as soft (args .limit) old (searchOf (args .in-supercodes)) 5 (firstAbove soft 7)
-    (no-to-5 soft (args .limit) old (asked .before .before .before .if1 .left) (asked .before .before .if2 .left) (omega (arith, asked .before .if3 .left)) (omega (arith, asked .if4 .left)) bad) _
-    (c .refused5 .ensures ∙ ap (refusedPage 5) (place .ensures))
+    (no-to-5 soft (args .limit) old (asked .before .before .before .if1 .left) (asked .before .before .if2 .left) (omega (arith, asked .before .if3 .left)) (omega (arith, asked .if4 .left)) bad) _ _ _
+    (c .refused5 .ensures) (omega arith) (omega (arith, place .ensures))
 
 decode-page-requires : tie.Need-decode-page-requires
 decode-page-requires c κs =
