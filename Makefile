@@ -13,6 +13,7 @@ test: tools listed
 	@tests/run-vectors tests/vectors tests/libfec tests/known
 	@tests/run-station
 	@tests/run-readpage
+	@tests/run-documents
 	@RT_JOBS=6 rt ci
 
 run: tools
