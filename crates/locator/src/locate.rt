@@ -26,10 +26,7 @@ fn combine(row: &mut [u8], slots: &[u8], k: usize, t: u8)
     requires { ⌜ (32 ≤ length (now row)) × (k * 32 + 32 ≤ length (now slots)) ⌝ }
     ensures { λ r. ⌜ Entries 32 (λ (i : ℕ). add (symbol (now (row .entry)) i) (mul 6 67 t (symbol (now (slots .entry)) (k * 32 + i)))) (now (row .exit)) ⌝ }
 {
-    let from = k * 32;
-    for i in 0..32 {
-        row[i] = row[i] ^ field::product(t, slots[from + i]);
-    }
+    lists::add_multiple(row, slots, k * 32, 32, t);
 }
 
 // A row that was tried, and the equation at which it stopped.

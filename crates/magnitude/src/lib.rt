@@ -40,9 +40,7 @@ fn gather(a: &mut [u8], q: &[u8], e: u8)
     requires { ⌜ (16 ≤ length (now a)) × (16 ≤ length (now q)) ⌝ }
     ensures { λ r. ⌜ Entries 16 (λ (i : ℕ). add (symbol (now (a .entry)) i) (mul 6 67 e (symbol (now (q .entry)) i))) (now (a .exit)) ⌝ }
 {
-    for i in 0..16 {
-        a[i] = a[i] ^ field::product(e, q[i]);
-    }
+    lists::add_multiple(a, q, 0, 16, e);
 }
 
 // Sixteen products.

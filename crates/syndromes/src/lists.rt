@@ -1,6 +1,8 @@
 // Loops over lists of symbols that more than one step needs.
 ghost use Prim.Native.Nat.{ℕ, _+_, _*_, _≤_};
 ghost use lib.ListN.{length};
+ghost use Rattle.poly.specs.Polynomial.{add};
+ghost use Rattle.field.specs.Element.{mul};
 ghost use Rattle.reedsolomon.specs.Row.{symbol};
 ghost use Rattle.reedsolomon.specs.Steps.{Entries, WrittenAt, AllZero};
 
@@ -40,4 +42,14 @@ pub fn all_zero(a: &[u8], n: usize) -> bool
         i += 1;
     }
     true
+}
+
+// f times the n entries of b from the entry `from` on are added to the first n of a.
+pub fn add_multiple(a: &mut [u8], b: &[u8], from: usize, n: usize, f: u8)
+    requires { ⌜ (n ≤ length (now a)) × (from + n ≤ length (now b)) ⌝ }
+    ensures { λ r. ⌜ Entries n (λ (i : ℕ). add (symbol (now (a .entry)) i) (mul 6 67 f (symbol (now (b .entry)) (from + i)))) (now (a .exit)) ⌝ }
+{
+    for i in 0..n {
+        a[i] = a[i] ^ field::product(f, b[from + i]);
+    }
 }

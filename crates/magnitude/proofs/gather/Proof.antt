@@ -1,72 +1,25 @@
--- `magnitude::gather` meets its contract: one entry a turn of the loop. Assumes nothing.
-use mathlib.Core.Path.{_≡_}
-use mathlib.Core.List.{List}
-use Prim.Native.Nat.{ℕ, _-_, _≤_}
-use lib.ListN.{length, length-set}
+-- `magnitude::gather` meets its contract: a multiple is added from the first entry on. Assumes nothing.
+use mathlib.Core.Path.{_≡_, ap, _∙_}
+use Prim.Native.Nat.{ℕ, _+_}
 use Rattle.poly.specs.Polynomial.{add}
 use Rattle.field.specs.Element.{mul}
 use Rattle.reedsolomon.specs.Row.{symbol}
-use Rattle.reedsolomon.specs.Steps.{Written}
-use Rattle.reedsolomon.proofs.Fill.{nothing-written, one-more-added}
 use native.Mathlib.Omega.{arith}
 use borrow.Author.Needs.{needs}
 use Rattle.magnitude.proofs.gather.Statement.{statement}
 use Rattle.magnitude.proofs.gather.Tie as tie
 
-abbrev goal : List ℕ → ℕ → List ℕ → ℕ → ℕ
-goal q e a i = add (symbol a i) (mul 6 67 e (symbol q i))
+add-multiple-requires : tie.Need-add-multiple-requires
+add-multiple-requires c κs = search needs
 
-abbrev Inv-loop : tie.InvT-loop
-Inv-loop a₀ q e i₀ a i = (i ≤ 16) × (length a ≡ length a₀) × Written i (goal q e a₀) a₀ a
-
-abbrev μ-loop : tie.MeasureT-loop
-μ-loop a₀ q e i₀ a i = 16 - i
-
-loop-holds : tie.Need-loop-holds Inv-loop μ-loop
-loop-holds c = (search needs, search needs, nothing-written _ _)
-
-slice-read-a : tie.Need-slice-read-a Inv-loop μ-loop
-slice-read-a c = search needs
-
-shared-slice-read-product : tie.Need-shared-slice-read-product Inv-loop μ-loop
-shared-slice-read-product c = search needs
-
-product-requires : tie.Need-product-requires Inv-loop μ-loop
-product-requires c κs = search needs
-
-slice-write-a : tie.Need-slice-write-a Inv-loop μ-loop
-slice-write-a c = search needs
-
-add-i : tie.Need-add-i Inv-loop μ-loop
-add-i c = search needs
-
-loop-less : tie.Need-loop-less Inv-loop μ-loop
-loop-less c = search needs
-
-loop-again : tie.Need-loop-again Inv-loop μ-loop
-loop-again c =
-    let l = c .before .before .before .before .loop in
-    (omega arith, simp length-set (omega arith), one-more-added _ _ _ _ _ (l .inv .2) (omega arith) (c .product .ensures))
-
-same-length : tie.Need-same-length Inv-loop μ-loop
+same-length : tie.Need-same-length
 same-length c = search needs
 
-returns : tie.Need-returns Inv-loop μ-loop
-returns c = λ i l. c .before .loop .inv .2 .written i (omega arith)
+returns : tie.Need-returns
+returns c =
+    let s = c .before .before .before .before .before .before .args in
+    λ i l. let z : 0 + i ≡ i = omega arith in
+    c .before .before .add-multiple .ensures i l ∙ ap (λ (j : ℕ). add (symbol (s .a .now) i) (mul 6 67 (s .e) (symbol (s .q .now) j))) z
 
 pub gather-spec : {M : Type 1} → statement M
-gather-spec =
-    tie.close
-    (tie.spec
-    Inv-loop
-    μ-loop
-    loop-holds
-    slice-read-a
-    shared-slice-read-product
-    product-requires
-    slice-write-a
-    add-i
-    loop-less
-    loop-again
-    same-length
-    returns)
+gather-spec = tie.close (tie.spec add-multiple-requires same-length returns)

@@ -1,4 +1,4 @@
--- `locator::locate::combine` meets its contract: one entry a turn of the loop. Assumes nothing.
+-- `syndromes::lists::add_multiple` meets its contract: one entry a turn of the loop. Assumes nothing.
 use mathlib.Core.Path.{_≡_}
 use mathlib.Core.List.{List}
 use Prim.Native.Nat.{ℕ, _+_, _-_, _*_, _≤_}
@@ -10,26 +10,23 @@ use Rattle.reedsolomon.specs.Steps.{Written}
 use Rattle.reedsolomon.proofs.Fill.{nothing-written, one-more-added}
 use native.Mathlib.Omega.{arith}
 use borrow.Author.Needs.{needs}
-use Rattle.locator.proofs.locate.combine.Statement.{statement}
-use Rattle.locator.proofs.locate.combine.Tie as tie
+use Rattle.syndromes.proofs.lists.add_multiple.Statement.{statement}
+use Rattle.syndromes.proofs.lists.add_multiple.Tie as tie
 
-abbrev goal : ℕ → List ℕ → ℕ → List ℕ → ℕ → ℕ
-goal k slots t row i = add (symbol row i) (mul 6 67 t (symbol slots (k * 32 + i)))
+abbrev goal : List ℕ → ℕ → ℕ → List ℕ → ℕ → ℕ
+goal b from f a i = add (symbol a i) (mul 6 67 f (symbol b (from + i)))
 
 abbrev Inv-loop : tie.InvT-loop
-Inv-loop row₀ slots k t from i₀ row i = (i ≤ 32) × (length row ≡ length row₀) × Written i (goal k slots t row₀) row₀ row
+Inv-loop a₀ b from n f i₀ a i = (i ≤ n) × (length a ≡ length a₀) × Written i (goal b from f a₀) a₀ a
 
 abbrev μ-loop : tie.MeasureT-loop
-μ-loop row₀ slots k t from i₀ row i = 32 - i
-
-mul-from : tie.Need-mul-from Inv-loop μ-loop
-mul-from c = search needs
+μ-loop a₀ b from n f i₀ a i = n - i
 
 loop-holds : tie.Need-loop-holds Inv-loop μ-loop
 loop-holds c = (search needs, search needs, nothing-written _ _)
 
-slice-read-row : tie.Need-slice-read-row Inv-loop μ-loop
-slice-read-row c = search needs
+slice-read-a : tie.Need-slice-read-a Inv-loop μ-loop
+slice-read-a c = search needs
 
 add-product : tie.Need-add-product Inv-loop μ-loop
 add-product c = search needs
@@ -40,8 +37,8 @@ shared-slice-read-product c = search needs
 product-requires : tie.Need-product-requires Inv-loop μ-loop
 product-requires c κs = search needs
 
-slice-write-row : tie.Need-slice-write-row Inv-loop μ-loop
-slice-write-row c = search needs
+slice-write-a : tie.Need-slice-write-a Inv-loop μ-loop
+slice-write-a c = search needs
 
 add-i : tie.Need-add-i Inv-loop μ-loop
 add-i c = search needs
@@ -60,19 +57,18 @@ same-length c = search needs
 returns : tie.Need-returns Inv-loop μ-loop
 returns c = λ i l. c .before .loop .inv .2 .written i (omega arith)
 
-pub combine-spec : {M : Type 1} → statement M
-combine-spec =
+pub add-multiple-spec : {M : Type 1} → statement M
+add-multiple-spec =
     tie.close
     (tie.spec
     Inv-loop
     μ-loop
-    mul-from
     loop-holds
-    slice-read-row
+    slice-read-a
     add-product
     shared-slice-read-product
     product-requires
-    slice-write-row
+    slice-write-a
     add-i
     loop-less
     loop-again
