@@ -1,7 +1,7 @@
 -- `syndromes::lists::add_multiple` meets its contract: one entry a turn of the loop. Assumes nothing.
 use mathlib.Core.Path.{_≡_}
 use mathlib.Core.List.{List}
-use Prim.Native.Nat.{ℕ, _+_, _-_, _*_, _≤_}
+use Prim.Native.Nat.{ℕ, _+_, _-_, _≤_}
 use lib.ListN.{length, length-set}
 use Rattle.poly.specs.Polynomial.{add}
 use Rattle.field.specs.Element.{mul}
