@@ -28,11 +28,14 @@ use Rattle.concatenated.proofs.Searches.{symbols-in-range}
 use Rattle.concatenated.proofs.OuterJoint.{flags-back, outer-laws}
 
 -- a level's symbols and flags are as many as its columns
-pub read-long : (i : ℕ) (rs : List Reading) (xs ms : List ℕ) (n : ℕ) → RowRead i rs xs ms n → length rs ≡ 63 → (length xs ≡ 63) × (length ms ≡ 63)
-read-long i rs xs ms n read e = (
-  ap length (read .symbols-are) ∙ length-map rs (symbol short i) ∙ e,
-  ap length (read .marks-are) ∙ length-map (marks rs) flag ∙ length-map rs mark ∙ e,
-)
+pub read-long : (kind : Kind) (limit i : ℕ) (work : List (List ℕ)) (xs ms : List ℕ) (n : ℕ) → length work ≡ 63 → RowRead i (map (shortReader kind limit i) work) xs ms n
+    → (length xs ≡ 63) × (length ms ≡ 63)
+read-long kind limit i work xs ms n e read =
+    let rs = map (shortReader kind limit i) work in
+    let long : length rs ≡ 63 = length-map work (shortReader kind limit i) ∙ e in (
+      ap length (read .symbols-are) ∙ length-map rs (symbol short i) ∙ long,
+      ap length (read .marks-are) ∙ length-map (marks rs) flag ∙ length-map rs mark ∙ long,
+    )
 
 -- they are symbols
 pub read-symbols : (kind : Kind) (limit i : ℕ) → i < 4 → (work : List (List ℕ)) (xs ms : List ℕ) (n : ℕ) → RowRead i (map (shortReader kind limit i) work) xs ms n → Symbols 6 xs

@@ -18,21 +18,15 @@ slice-aggregate-decode : tie.Need-slice-aggregate-decode
 slice-aggregate-decode c =
     let read = c .before in
     let start = read .before .before .before .before .before .before .before in
-    let level = start .args .level in
-    let kind = searchOf (start .args .in-supercodes) in
-    let work = start .args .work .now in
-    let long : length (map (shortReader kind (start .args .limit) level) work) ≡ 63 = length-map work (shortReader kind (start .args .limit) level) ∙ start .pre .2 .many in
-    sym (read-long _ _ _ _ _ (read .read-row .ensures .0) long .0)
+    let a = start .args in
+    sym (read-long (searchOf (a .in-supercodes)) (a .limit) (a .level) (a .work .now) _ _ _ (start .pre .2 .many) (read .read-row .ensures .0) .0)
 
 slice-aggregate-decode-2 : tie.Need-slice-aggregate-decode-2
 slice-aggregate-decode-2 c =
     let read = c .before .before in
     let start = read .before .before .before .before .before .before .before in
-    let level = start .args .level in
-    let kind = searchOf (start .args .in-supercodes) in
-    let work = start .args .work .now in
-    let long : length (map (shortReader kind (start .args .limit) level) work) ≡ 63 = length-map work (shortReader kind (start .args .limit) level) ∙ start .pre .2 .many in
-    sym (read-long _ _ _ _ _ (read .read-row .ensures .0) long .1)
+    let a = start .args in
+    sym (read-long (searchOf (a .in-supercodes)) (a .limit) (a .level) (a .work .now) _ _ _ (start .pre .2 .many) (read .read-row .ensures .0) .1)
 
 roots-requires : tie.Need-roots-requires
 roots-requires c κs = search needs
@@ -47,8 +41,7 @@ decode-requires c κs =
     let level = start .args .level in
     let kind = searchOf (start .args .in-supercodes) in
     let work = start .args .work .now in
-    let long : length (map (shortReader kind (start .args .limit) level) work) ≡ 63 = length-map work (shortReader kind (start .args .limit) level) ∙ start .pre .2 .many in
-    let longs = read-long _ _ _ _ _ (read .read-row .ensures .0) long in
+    let longs = read-long kind (start .args .limit) level work _ _ _ (start .pre .2 .many) (read .read-row .ensures .0) in
     (longs .0, longs .1, refl, read-symbols kind (start .args .limit) level (start .pre .0) work _ _ _ (read .read-row .ensures .0), c .before .roots .ensures .1)
 
 changed-columns-requires : tie.Need-changed-columns-requires
@@ -60,7 +53,7 @@ changed-columns-requires c κs =
     let kind = searchOf (start .args .in-supercodes) in
     let work = start .args .work .now in
     let long : length (map (shortReader kind (start .args .limit) level) work) ≡ 63 = length-map work (shortReader kind (start .args .limit) level) ∙ start .pre .2 .many in
-    let longs = read-long _ _ _ _ _ (read .read-row .ensures .0) long in
+    let longs = read-long kind (start .args .limit) level work _ _ _ (start .pre .2 .many) (read .read-row .ensures .0) in
     let word = settled-row-is-a-word level (start .pre .0) _ long _ _ _ (read .read-row .ensures .0) _ (given .before .before .roots .ensures .0) _ _ _ (given .decode .ensures) (c .before .before .before .if1 .taken) in
     (longs .0, longs .1, word .0)
 
