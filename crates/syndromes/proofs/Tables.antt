@@ -1,63 +1,31 @@
--- A table of a generator's multiples passes three tests that are computed over it: its words are small, its roots are entries of the table of powers, and the
--- products are right. Assumes nothing.
+-- The words of a generator pass two tests that are computed over their number: it has T symbols at most, and its roots are entries 1 to T of the table of powers.
+-- Assumes nothing.
 use mathlib.Core.Path.{_≡_, refl, ap}
-use mathlib.Core.Bool.{Bool, true, false}
-use mathlib.Core.List.{List, [], _∷_}
+use mathlib.Core.Bool.{Bool}
 use Prim.Native.Nat.{ℕ, zero, suc, _*_, _%_, _^_, _≤_, _<_}
 use native.Mathlib.Nat.{lt-of-lt-of-le, div-eq-of-lt}
 use native.Mathlib.Omega.{arith}
-use lib.Dec.{T, eqb, eqb→eq, ltb, ltb→lt}
-use lib.ListN.{getD}
-use lib.Pow.{pow-pos, pow-mono}
-use Rattle.field.specs.Element.{mul}
-use Rattle.reedsolomon.proofs.Below.{allBelow, at-each}
+use lib.Dec.{T, ltb, ltb→lt}
+use lib.Pow.{pow-mono}
+use Rattle.reedsolomon.proofs.Below.{allBelow}
 use Rattle.reedsolomon.proofs.Generators.{isRoot, generator-by-table}
-use Rattle.syndromes.specs.Packed.{symbolIn, joined, SmallWords, multipleOf, coefficientIn, HasMultiples}
+use Rattle.syndromes.specs.Packed.{symbolIn, coefficientIn, IsGenerator}
 
-abbrev small : List ℕ → Bool
-small [] = true
-small (y ∷ ys) = elim (ltb y (2 ^ 60)) [ true ↦ small ys | false ↦ false ]
+-- a test of a number that is computed before the test begins
+abbrev computed : ℕ → (ℕ → Bool) → Bool
+computed zero test = test zero
+computed (suc n) test = test (suc n)
 
-small-at : (ys : List ℕ) → T (small ys) → SmallWords ys
-small-at [] t k = pow-pos 60
-small-at (y ∷ ys) t k = go (ltb y (2 ^ 60)) (ltb→lt y (2 ^ 60)) t (small-at ys) k
+test-of-number : (n : ℕ) (test : ℕ → Bool) → T (computed n test) → T (test n)
+test-of-number zero test t = t
+test-of-number (suc n) test t = t
+
+pub is-generator : (T n : ℕ) → T < 63 → lib.Dec.T (ltb n (2 ^ (6 * T))) → lib.Dec.T (computed n (λ n. allBelow (isRoot 6 67 63 T (coefficientIn n)) T)) → IsGenerator T n
+is-generator T n few short roots =
+    record { generator = unfold coefficientIn in generator-by-table 6 67 63 T (coefficientIn n) few refl (test-of-number n _ roots); ended = ended }
   where
-    go : (b : Bool) → (T b → y < 2 ^ 60) → T (elim b [ true ↦ small ys | false ↦ false ]) → (T (small ys) → SmallWords ys) → (k : ℕ) → getD (y ∷ ys) k 0 < 2 ^ 60
-    go false e t others k = absurd t
-    go true e t others zero = e tt
-    go true e t others (suc k) = others t k
-
--- a test of a list that is computed entry by entry before the test begins
-abbrev computed : List ℕ → (List ℕ → Bool) → Bool
-computed [] test = test []
-computed (y ∷ ys) test = computed ys (λ zs. test (y ∷ zs))
-
-test-of-list : (ys : List ℕ) (test : List ℕ → Bool) → T (computed ys test) → T (test ys)
-test-of-list [] test t = t
-test-of-list (y ∷ ys) test t = test-of-list ys (λ zs. test (y ∷ zs)) t
-
--- the product by α ^ k at symbol i
-abbrev isProduct : List ℕ → ℕ → ℕ → Bool
-isProduct g k i = eqb (symbolIn (multipleOf g (2 ^ k)) i) (mul 6 67 (2 ^ k) (coefficientIn g (suc i)))
-
-module _ (T : ℕ) (g : List ℕ) where
-  -- T symbols at most
-  abbrev short : Bool
-  short = ltb (joined (getD g 0 0) (getD g 6 0) (getD g 12 0)) (2 ^ (6 * T))
-
-  coefficients-end : lib.Dec.T short → (i : ℕ) → T < i → coefficientIn g i ≡ 0
-  unfolding coefficientIn symbolIn
-  coefficients-end s zero l = absurd (omega arith)
-  coefficients-end s (suc i) l =
-      let wide : 6 * T ≤ 6 * i = omega arith in ap (λ (t : ℕ). t % 2 ^ 6) (div-eq-of-lt (lt-of-lt-of-le (ltb→lt _ _ s) (pow-mono wide)))
-
-  pub has-multiples : T < 63 → lib.Dec.T (small g) → lib.Dec.T short → lib.Dec.T (computed g (λ g. allBelow (isRoot 6 67 63 T (coefficientIn g)) T))
-      → lib.Dec.T (computed g (λ g. allBelow (λ k. allBelow (isProduct g k) 30) 6)) → HasMultiples T g
-  unfolding coefficientIn
-  has-multiples few s e r p =
-      record {
-        generator = generator-by-table 6 67 63 T (coefficientIn g) few refl (test-of-list g _ r);
-        ended = coefficients-end e;
-        small = small-at g s;
-        products = λ k i l l′. eqb→eq _ _ (at-each (isProduct g k) 30 (at-each (λ k. allBelow (isProduct g k) 30) 6 (test-of-list g _ p) k l) i l′);
-      }
+    ended : (i : ℕ) → T < i → coefficientIn n i ≡ 0
+    ended zero l = absurd (omega arith)
+    ended (suc i) l =
+        let wide : 6 * T ≤ 6 * i = omega arith in
+        unfold coefficientIn in unfold symbolIn in ap (λ (t : ℕ). t % 2 ^ 6) (div-eq-of-lt (lt-of-lt-of-le (ltb→lt _ _ short) (pow-mono wide)))

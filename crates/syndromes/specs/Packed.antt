@@ -2,7 +2,7 @@
 use mathlib.Core.Path.{_≡_}
 use mathlib.Core.List.{List}
 use Prim.Native.Nat.{ℕ, zero, suc, _+_, _*_, _/_, _%_, _^_, _<_}
-use lib.ListN.{getD}
+use lib.ListN.{length, getD}
 use Rattle.poly.specs.Polynomial.{add, scale}
 use Rattle.field.specs.Element.{mul, α}
 use Rattle.reedsolomon.specs.Sums.{sum}
@@ -26,26 +26,36 @@ pub record Full (w : Words) : Type 0 where
   pub middle : w .middle < 2 ^ 60
   pub high : w .high < 2 ^ 60
 
--- words of ten symbols
-abbrev pub SmallWords : List ℕ → Type 0
-SmallWords g = (k : ℕ) → getD g k 0 < 2 ^ 60
+-- six words of ten symbols
+pub record SixWords (ms : List ℕ) : Type 0 where
+  pub six : length ms ≡ 6
+  pub small : (k : ℕ) → k < 6 → getD ms k 0 < 2 ^ 60
 
--- f times a word whose products by 1, α .. α ^ 5 stand from the entry `from` on: the sum of those that f's digits name
-unfoldable pub multipleAt : List ℕ → ℕ → ℕ → ℕ
-multipleAt g from f = sum add 0 6 (λ k. scale (f / 2 ^ k % 2) (getD g (from + k) 0))
+-- y has ten symbols: those of x, each times α
+pub record TimesAlpha (x y : ℕ) : Type 0 where
+  pub small : y < 2 ^ 60
+  pub each : (i : ℕ) → i < 10 → symbolIn y i ≡ mul 6 67 α (symbolIn x i)
 
--- f times three words, whose products stand from the entries 0, 6 and 12 on
-unfoldable pub multipleOf : List ℕ → ℕ → ℕ
-multipleOf g f = joined (multipleAt g 0 f) (multipleAt g 6 f) (multipleAt g 12 f)
+-- the word w, and each further entry the one before it times α
+pub record Multiples (w : ℕ) (ms : List ℕ) : Type 0 where
+  pub words : SixWords ms
+  pub first : getD ms 0 0 ≡ w
+  pub next : (k : ℕ) → k < 5 → TimesAlpha (getD ms k 0) (getD ms (suc k) 0)
 
--- the coefficients of a generator: 1, and then the symbols of its three words, which stand at the entries 0, 6 and 12
-unfoldable pub coefficientIn : List ℕ → ℕ → ℕ
-coefficientIn g zero = 1
-coefficientIn g (suc i) = symbolIn (joined (getD g 0 0) (getD g 6 0) (getD g 12 0)) i
+-- f times a word by its multiples: the sum of those that f's digits name
+unfoldable pub multipleIn : List ℕ → ℕ → ℕ
+multipleIn ms f = sum add 0 6 (λ k. scale (f / 2 ^ k % 2) (getD ms k 0))
 
--- the products of a generator of T roots, behind its first coefficient, by 1, α .. α ^ 5
-pub record HasMultiples (T : ℕ) (g : List ℕ) : Type 0 where
-  pub generator : Generator add (mul 6 67) 0 1 α T (coefficientIn g)
-  pub ended : (i : ℕ) → T < i → coefficientIn g i ≡ 0
-  pub small : SmallWords g
-  pub products : (k i : ℕ) → k < 6 → i < 30 → symbolIn (multipleOf g (2 ^ k)) i ≡ mul 6 67 (2 ^ k) (coefficientIn g (suc i))
+-- f times three words
+unfoldable pub multipleOf : List ℕ → List ℕ → List ℕ → ℕ → ℕ
+multipleOf low middle high f = joined (multipleIn low f) (multipleIn middle f) (multipleIn high f)
+
+-- the coefficients of a generator, the highest first: 1, and then the symbols of n
+unfoldable pub coefficientIn : ℕ → ℕ → ℕ
+coefficientIn n zero = 1
+coefficientIn n (suc i) = symbolIn n i
+
+-- n has the coefficients of a generator of T roots, and 0 behind them
+pub record IsGenerator (T n : ℕ) : Type 0 where
+  pub generator : Generator add (mul 6 67) 0 1 α T (coefficientIn n)
+  pub ended : (i : ℕ) → T < i → coefficientIn n i ≡ 0

@@ -1,10 +1,10 @@
 -- `syndromes::encoder::multiple` meets its contract: one digit of f a turn of the loop. Assumes nothing.
 use mathlib.Core.Path.{_≡_, refl}
-use Prim.Native.Nat.{ℕ, _+_, _-_, _/_, _%_, _^_, _≤_}
+use Prim.Native.Nat.{ℕ, _-_, _/_, _%_, _^_, _≤_}
 use lib.ListN.{getD}
 use Rattle.poly.specs.Polynomial.{add, scale}
 use Rattle.reedsolomon.specs.Sums.{sum}
-use Rattle.syndromes.specs.Packed.{multipleAt}
+use Rattle.syndromes.specs.Packed.{multipleIn}
 use Rattle.syndromes.proofs.Multiples.{one-digit-more}
 use native.Mathlib.Omega.{arith}
 use borrow.Author.Needs.{needs}
@@ -12,17 +12,14 @@ use Rattle.syndromes.proofs.encoder.multiple.Statement.{statement}
 use Rattle.syndromes.proofs.encoder.multiple.Tie as tie
 
 abbrev Inv-loop : tie.InvT-loop
-Inv-loop g from f r₀ k₀ r k = (k ≤ 6) × (r ≡ sum add 0 k (λ (j : ℕ). scale (f / 2 ^ j % 2) (getD g (from + j) 0)))
+Inv-loop ms f r₀ k₀ r k = (k ≤ 6) × (r ≡ sum add 0 k (λ (j : ℕ). scale (f / 2 ^ j % 2) (getD ms j 0)))
 
 abbrev μ-loop : tie.MeasureT-loop
-μ-loop g from f r₀ k₀ r k = 6 - k
+μ-loop ms f r₀ k₀ r k = 6 - k
 
 loop-holds : tie.Need-loop-holds Inv-loop μ-loop
 unfolding sum
 loop-holds c = (omega arith, refl)
-
-add-pick : tie.Need-add-pick Inv-loop μ-loop
-add-pick c = search needs
 
 mul-pick : tie.Need-mul-pick Inv-loop μ-loop
 mul-pick c = search needs
@@ -46,10 +43,10 @@ loop-again : tie.Need-loop-again Inv-loop μ-loop
 loop-again c =
     let s = c .before .before .before .before .before .args in
     let l = c .before .before .before .loop in
-    (omega arith, one-digit-more (λ (j : ℕ). getD (s .g .now) (s .from + j) 0) (l .k) (s .f) _ _ (l .inv .1) (c .pick .ensures))
+    (omega arith, one-digit-more (λ (j : ℕ). getD (s .ms .now) j 0) (l .k) (s .f) _ _ (l .inv .1) (c .pick .ensures))
 
 returns : tie.Need-returns Inv-loop μ-loop
-unfolding multipleAt
+unfolding multipleIn
 returns c = let e : c .before .loop .k ≡ 6 = omega arith in rw e at (c .before .loop .inv .1)
 
 pub multiple-spec : {M : Type 1} → statement M
@@ -59,7 +56,6 @@ multiple-spec =
     Inv-loop
     μ-loop
     loop-holds
-    add-pick
     mul-pick
     shared-slice-read-pick
     shr-pick
