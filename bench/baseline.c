@@ -6,8 +6,6 @@
 
 enum { ROOM = 2002, BITS = 30 };
 
-static const int8_t values[2][8] = {{2, 1, -1, -5, -11, -20, -35, -60}, {-60, -35, -20, -11, -5, -1, 1, 2}};
-
 typedef struct { int16_t sum; uint8_t length; uint32_t bits; } plain_path;
 typedef uint64_t packed_path;
 
@@ -55,28 +53,28 @@ static inline uint32_t packed_bits(packed_path p) { return (uint32_t)(LOW - (p &
         }                                                                                                                         \
         heap[i] = p;                                                                                                              \
     }                                                                                                                             \
-    baseline_outcome baseline_##kind(const uint8_t *soft, const uint32_t *left, const uint32_t *right, int limit) {               \
+    baseline_outcome baseline_##kind(const uint8_t *soft, const baseline_tables *tables, int limit) {                             \
         static kind##_path heap[ROOM];                                                                                            \
         int count = 0, sum = 0;                                                                                                   \
         unsigned length = 0;                                                                                                      \
         uint32_t bits = 0;                                                                                                        \
         for (int taken = 1; taken <= limit; taken++) {                                                                            \
             unsigned q = soft[length], u = 0, v = 0, bit = q >> 2;                                                                \
-            uint32_t l = left[length], r = right[length], zero = bits << 1;                                                       \
+            uint32_t l = tables->left[length], r = tables->right[length], zero = bits << 1;                                       \
             kind##_path p;                                                                                                        \
             if (l | r) {                                                                                                          \
                 u = (unsigned)__builtin_parity(zero & l);                                                                         \
                 v = (unsigned)__builtin_parity(zero & r);                                                                         \
                 bit = u | v;                                                                                                      \
             } else                                                                                                                \
-                kind##_push(heap, count++, kind##_of(sum + values[!bit][q], length + 1, zero | !bit));                            \
+                kind##_push(heap, count++, kind##_of(sum + tables->values[!bit][q], length + 1, zero | !bit));                    \
             if (l && r && u != v) {                                                                                               \
                 if (!count) break;                                                                                                \
                 p = heap[0];                                                                                                      \
                 count--;                                                                                                          \
                 kind##_sink(heap, count, heap[count]);                                                                            \
             } else {                                                                                                              \
-                p = kind##_of(sum + values[bit][q], length + 1, zero | bit);                                                      \
+                p = kind##_of(sum + tables->values[bit][q], length + 1, zero | bit);                                              \
                 if (count && kind##_before(heap[0], p)) {                                                                         \
                     kind##_path first = heap[0];                                                                                  \
                     kind##_sink(heap, count, p);                                                                                  \

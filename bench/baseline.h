@@ -6,8 +6,11 @@
 /* count 0: spent */
 typedef struct { uint32_t word, count; } baseline_outcome;
 
-/* One mask a position for each of two codes: entry t checks a path's bit t + 1. */
-baseline_outcome baseline_plain(const uint8_t *soft, const uint32_t *left, const uint32_t *right, int limit);
-baseline_outcome baseline_packed(const uint8_t *soft, const uint32_t *left, const uint32_t *right, int limit);
+/* What a search looks up: one mask a position for each of two codes, entry t checking a path's bit t + 1; and its level's branch values, entry [b][q] for
+   bit b and soft value q. */
+typedef struct { uint32_t left[30], right[30]; int8_t values[2][8]; } baseline_tables;
+
+baseline_outcome baseline_plain(const uint8_t *soft, const baseline_tables *tables, int limit);
+baseline_outcome baseline_packed(const uint8_t *soft, const baseline_tables *tables, int limit);
 
 #endif

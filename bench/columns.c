@@ -21,12 +21,12 @@ static void fill(uint8_t *soft, int level, double sigma) {
     }
 }
 
-typedef baseline_outcome search(const uint8_t *soft, const uint32_t *left, const uint32_t *right, int limit);
+typedef baseline_outcome search(const uint8_t *soft, const baseline_tables *tables, int limit);
 
-static uint64_t baseline_searches(search *one, const uint8_t *soft, const uint32_t *left, const uint32_t *right, int limit) {
+static uint64_t baseline_searches(search *one, const uint8_t *soft, const baseline_tables *tables, int limit) {
     uint64_t fold = 0;
     for (int c = 0; c < COLUMNS; c++) {
-        baseline_outcome o = one(soft + c * BITS, left, right, limit);
+        baseline_outcome o = one(soft + c * BITS, tables, limit);
         fold ^= (uint64_t)o.word * 2048 + o.count;
     }
     return fold;
@@ -39,9 +39,10 @@ int main(int argc, char **argv) {
     for (size_t k = 0; k < KINDS; k++)
         for (int level = 0; level < LEVELS; level++)
             for (int supercode = 0; supercode < 2; supercode++) {
-                uint32_t left[BITS], right[BITS] = {0};
-                if (supercode) supercode_masks(level, left, right);
-                else masks_of(generator(level), left);
+                baseline_tables tables = {0};
+                if (supercode) supercode_masks(level, tables.left, tables.right);
+                else masks_of(generator(level), tables.left);
+                branch_values(level, tables.values);
                 fill(soft, level, kinds[k].sigma);
                 double ours = 1e9, plain = 1e9, packed = 1e9;
                 uint64_t a = 0, b = 0, c = 0;
@@ -49,9 +50,9 @@ int main(int argc, char **argv) {
                     double t = seconds();
                     a = measured_searches((uint64_t)level, soft, sizeof soft, (uint64_t)limit, (uint64_t)supercode);
                     double u = seconds();
-                    b = baseline_searches(baseline_plain, soft, left, right, limit);
+                    b = baseline_searches(baseline_plain, soft, &tables, limit);
                     double v = seconds();
-                    c = baseline_searches(baseline_packed, soft, left, right, limit);
+                    c = baseline_searches(baseline_packed, soft, &tables, limit);
                     double w = seconds();
                     if (u - t < ours) ours = u - t;
                     if (v - u < plain) plain = v - u;

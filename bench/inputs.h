@@ -1,4 +1,4 @@
-/* What the comparisons share: 01's factors and checks as numbers, random inputs, the clock. */
+/* What the comparisons share: 01's factors and checks as numbers, 02's branch values, random inputs, the clock. */
 #ifndef INPUTS_H
 #define INPUTS_H
 #include <math.h>
@@ -61,6 +61,12 @@ static inline void supercode_masks(int level, uint32_t *left, uint32_t *right) {
     masks_of(level < 2 ? factors[0] : product(factors[0], factors[1]), left);
     if (level) masks_of(added[level], right);
     else for (int t = 0; t < BITS; t++) right[t] = 0;
+}
+
+/* the level's branch values, entry [b][q] for bit b and soft value q */
+static inline void branch_values(int level, int8_t values[2][8]) {
+    static const int8_t of_zero[8] = {2, 1, -1, -5, -11, -20, -35, -60};
+    for (int q = 0; q < 8; q++) values[0][q] = values[1][7 - q] = (int8_t)(of_zero[q] + 2 * level);
 }
 
 /* A bit read with Gaussian noise of the given strength; 0: a surest value; below 0: a random value. */

@@ -11,7 +11,7 @@ static uint8_t power[512], place[64];            /* powers of α, four times rou
 static uint8_t divisor[LEVELS][MOST + 1];        /* a row's divisor, entry k for x^k */
 static uint32_t words[LEVELS][64];               /* level words */
 static uint8_t flips[LEVELS][64][BITS];          /* 7 where a level word has a one */
-static uint32_t left[LEVELS][BITS], right[LEVELS][BITS];
+static baseline_tables tables[LEVELS];
 
 static inline uint8_t times(uint8_t a, uint8_t b) { return power[place[a] + place[b]]; }
 
@@ -34,7 +34,8 @@ void page_baseline_start(void) {
             words[i][s] = high ^ remainder_of(high, g);
             for (int j = 0; j < BITS; j++) flips[i][s][j] = words[i][s] >> (BITS - 1 - j) & 1 ? 7 : 0;
         }
-        supercode_masks(i, left[i], right[i]);
+        supercode_masks(i, tables[i].left, tables[i].right);
+        branch_values(i, tables[i].values);
     }
 }
 
@@ -124,7 +125,7 @@ page_outcome page_baseline_decode(baseline_search *search, const uint8_t *soft, 
     for (int i = 0; i < LEVELS; i++) {
         uint8_t row[COLUMNS], was[COLUMNS], marks[COLUMNS];
         for (int j = 0; j < COLUMNS; j++) {
-            baseline_outcome c = search(page[j], left[i], right[i], limit);
+            baseline_outcome c = search(page[j], &tables[i], limit);
             marks[j] = c.count == 0;
             o.steps += c.count ? c.count : (uint32_t)limit;
             o.erased[i] += marks[j];

@@ -3,7 +3,7 @@
 #define PAGE_BASELINE_H
 #include "baseline.h"
 
-typedef baseline_outcome baseline_search(const uint8_t *soft, const uint32_t *left, const uint32_t *right, int limit);
+typedef baseline_outcome baseline_search(const uint8_t *soft, const baseline_tables *tables, int limit);
 
 /* number 0, or 10 with the level as place */
 typedef struct { uint64_t number, place, steps; uint8_t changed[4], erased[4]; } page_outcome;

@@ -28,14 +28,14 @@ static int written_bit(const uint8_t page[STATION_PAGE_LEN], int k) {
     return page[COLUMN_BYTES * column + bit / 8] >> (7 - bit % 8) & 1;
 }
 
-/* Reads a worn page. Of a thousand bits some 10 are read wrongly and surely, 20 wrongly and weakly, 100 rightly and weakly, the others rightly and surely.
+/* Reads a worn page. Of a thousand bits some 2 are read wrongly and surely, 8 wrongly and weakly, 100 rightly and weakly, the others rightly and surely.
    Gives how many were read wrongly. */
 static int read_worn(const uint8_t page[STATION_PAGE_LEN], uint8_t soft[STATION_SOFT_LEN]) {
     uint32_t state = 1;
     int wrong = 0;
     for (int k = 0; k < STATION_SOFT_LEN; k++) {
         uint32_t luck = next(&state) % 1000;
-        int misread = luck < 30, weak = luck >= 10 && luck < 130;
+        int misread = luck < 10, weak = luck >= 2 && luck < 110;
         int sureness = weak ? (int)(luck % 2) : 3;
         int bit = written_bit(page, k) ^ misread;
         soft[k] = (uint8_t)(bit ? 4 + sureness : 3 - sureness);

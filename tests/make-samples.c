@@ -64,12 +64,12 @@ int main(int argc, char **argv) {
     if (entry_encode_page(data, DATA, written, WRITTEN).number) return 1;
     soft_of(written, soft);
     save(argv[1], "clean.dump", soft);
-    wear(soft, 25);
+    wear(soft, 6);
     spoil(soft, 20);
     spoil(soft, 41);
     save(argv[1], "worn.dump", soft);
     soft_of(written, soft);
-    wear(soft, 5);
+    wear(soft, 2);
     for (int j = 0; j < 5; j++) spoil(soft, 7 + 11 * j);
     save(argv[1], "refused.dump", soft);
     return 0;

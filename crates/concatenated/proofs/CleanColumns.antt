@@ -11,7 +11,7 @@ use lib.IntN.{pos, _+ℤ_}
 use lib.ListN.{length, getD, take}
 use lib.Seq.{take-suc, take-all}
 use lib.Signed.{ltZ}
-use borrow.Author.Tests.{eq-eqb, ne-eqb, ltb-true, ltb-false}
+use borrow.Author.Tests.{eq-eqb, ne-eqb}
 use Rattle.column.specs.Shape.{Shape, Word, levels, levelCode}
 use Rattle.paths.specs.Paths.{Path}
 use Rattle.paths.specs.Order.{Ahead}
@@ -20,6 +20,7 @@ use Rattle.paths.proofs.Ahead.{last-apart, is-ahead, last-apart-in, last-apart-
 use Rattle.trellis.specs.Values.{Values, reading, doubt, branch}
 use Rattle.trellis.specs.Order.{bit, number, sum, zeroFirst, firstBy, before}
 use Rattle.trellis.specs.Demand.{Search as Kind, Codeword, AheadOfAll}
+use Rattle.trellis.proofs.Values.{doubt-lt}
 use Rattle.trellis.proofs.Order.{order}
 use Rattle.trellis.proofs.Demand.{Searchable}
 use Rattle.packing.specs.Packing.{joined}
@@ -42,14 +43,6 @@ read-bit-is-reading q = go (ltb q 4)
     go : (b : Bool) → bit (not b) ≡ cond b 0 1
     go true = refl
     go false = refl
-
-doubt-lt : (q : ℕ) → doubt q < 4
-unfolding doubt
-doubt-lt q = go (ltb q 4) refl
-  where
-    go : (b : Bool) → ltb q 4 ≡ b → cond b q (7 - q) < 4
-    go true e = ltb-true q 4 e
-    go false e = omega (arith, ltb-false q 4 e)
 
 module _ (vs : Values) (above : AgreeingIsAbove vs) (c : List ℕ) where
   -- ---- sums of paths

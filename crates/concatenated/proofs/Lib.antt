@@ -23,3 +23,5 @@ pub mod DataGroups
 pub mod PageBytes
 pub mod OuterJoint
 pub mod SetSizes
+pub mod Zeros
+pub mod ZeroPage

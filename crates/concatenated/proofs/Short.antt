@@ -1,13 +1,16 @@
 -- The short page: 63 columns, roots 30, 12, 6, 4, 150 bytes of data. Assumes nothing.
 use mathlib.Core.List.{List, [], _∷_}
-use mathlib.Core.Path.{_≡_, refl}
-use Prim.Native.Nat.{ℕ, zero, suc}
+use mathlib.Core.Path.{_≡_, refl, ap₂, _∙_}
+use Prim.Native.Nat.{ℕ, zero, suc, _*_}
 use native.Mathlib.Omega.{arith}
-use lib.ListN.{length}
+use lib.IntN.{pos}
+use lib.ListN.{length, getD}
+use lib.Signed.{ltZ}
 use Rattle.column.specs.Shape.{short, generator}
 use Rattle.column.proofs.Short as Column
-use Rattle.trellis.specs.Values.{values}
+use Rattle.trellis.specs.Values.{values, levelValues}
 use Rattle.trellis.specs.Demand.{Search as Kind, whole, supercode}
+use Rattle.trellis.proofs.Values.{raised-at}
 use Rattle.trellis.proofs.Short as Columns
 use Rattle.packing.specs.Packing.{columnBytes}
 use Rattle.concatenated.specs.Lists.{All, total}
@@ -23,6 +26,7 @@ use Rattle.concatenated.specs.Readers.{shortReader, deadAhead, Apart, Ag
 use Rattle.concatenated.specs.Clean.{ReadsAs, AgreeingIsAbove}
 use Rattle.concatenated.proofs.Digits.{Below}
 use Rattle.concatenated.proofs.Encoding.{page-in-bytes-length}
+use Rattle.concatenated.proofs.Integers.{same-after}
 use Rattle.concatenated.proofs.PageBack as PageBack
 use Rattle.concatenated.proofs.DecodersAgree as DecodersAgree
 use Rattle.concatenated.proofs.SoftPages.{as-many-columns, columns-are-soft}
@@ -50,6 +54,14 @@ agreeing-is-above (suc (suc zero)) h = refl
 agreeing-is-above (suc (suc (suc zero))) h = refl
 agreeing-is-above (suc (suc (suc (suc d)))) h = absurd (omega arith)
 
+-- and the values of a level keep it: both rise by as much
+level-values-agree-above : (i : ℕ) → AgreeingIsAbove (levelValues i)
+unfolding levelValues
+level-values-agree-above i d h =
+    ap₂ ltZ (raised-at (2 * i) (values .disagree) d h) (raised-at (2 * i) (values .agree) d h)
+    ∙ same-after (pos (2 * i)) (getD (values .disagree) d (pos 0)) (getD (values .agree) d (pos 0))
+    ∙ agreeing-is-above d h
+
 one-code : short .supercodes 0 .left .generator ≡ generator short 0
 unfolding generator
 one-code = refl
@@ -75,21 +87,21 @@ module _ (outer : RowDecoder) (encoded : RowEncoder) (Codeword : ℕ → List �
       × (rows ls ≡ writtenRows shortPage encoded bytes) × (bytesOfRows shortPage (rows ls) ≡ bytes) × All (λ l. total (l .changed) ≡ 0) ls
   clean-page-comes-back kind limit bytes full are-bytes soft long values-soft clean all-read =
       CleanPages.clean-page-comes-back shortPage short-page-sound outer encoded Codeword laws (shortReader kind limit)
-      (searches-find-the-reading short Columns.searchable (λ i. values) (λ i. agreeing-is-above) limit kind) bytes (softColumns shortPage soft) (as-many-columns shortPage soft)
+      (searches-find-the-reading short Columns.searchable levelValues level-values-agree-above limit kind) bytes (softColumns shortPage soft) (as-many-columns shortPage soft)
       (columns-are-soft shortPage soft long values-soft) clean all-read full are-bytes
 
 -- demand 3 for pages, of every outer decoder
 module _ (outer : RowDecoder) (limit : ℕ) (page : List (List ℕ)) (none-spent : NoneSpent short outer (shortReader supercode limit) page) where
   -- the dead paths ahead of the codewords of all column searches together
   abbrev pub allDeadAhead : ℕ
-  allDeadAhead = sumBelow short outer (shortReader supercode limit) page (deadAhead short (λ i. values) limit) 4
+  allDeadAhead = sumBelow short outer (shortReader supercode limit) page (deadAhead short levelValues limit) 4
 
   pub decoders-agree : Agree allDeadAhead (decoded short outer (shortReader whole limit) page) (decoded short outer (shortReader supercode limit) page)
-  decoders-agree = DecodersAgree.decoders-agree short Columns.searchable one-code outer (λ i. values) limit page none-spent
+  decoders-agree = DecodersAgree.decoders-agree short Columns.searchable one-code outer levelValues limit page none-spent
 
   pub column-searches-differ-by-the-dead-ahead : AtEveryLevel short outer (shortReader supercode limit) page
-      (λ i cs. Reaches short outer (shortReader whole limit) page i cs × All (λ c. Apart (deadAhead short (λ i. values) limit i c) (shortReader whole limit i c) (shortReader supercode limit i c)) cs)
+      (λ i cs. Reaches short outer (shortReader whole limit) page i cs × All (λ c. Apart (deadAhead short levelValues limit i c) (shortReader whole limit i c) (shortReader supercode limit i c)) cs)
   column-searches-differ-by-the-dead-ahead i h cs at = (
-    DecodersAgree.decoders-search-the-same-columns short Columns.searchable one-code outer (λ i. values) limit page none-spent i (omega arith) cs at,
-    DecodersAgree.column-searches-differ-by-the-dead-ahead short Columns.searchable one-code outer (λ i. values) limit page none-spent i h cs at,
+    DecodersAgree.decoders-search-the-same-columns short Columns.searchable one-code outer levelValues limit page none-spent i (omega arith) cs at,
+    DecodersAgree.column-searches-differ-by-the-dead-ahead short Columns.searchable one-code outer levelValues limit page none-spent i h cs at,
   )

@@ -13,3 +13,4 @@ pub mod Flags
 pub mod Places
 pub mod Arrays
 pub mod OuterCode
+pub mod ZeroPage

@@ -8,7 +8,7 @@ use Rattle.paths.specs.Paths.{Path}
 use Rattle.paths.specs.Search.{SearchResult, answer, limited-search}
 use Rattle.paths.specs.Search
 use Rattle.paths.specs.Dead.{dead-ahead}
-use Rattle.trellis.specs.Values.{Values, values}
+use Rattle.trellis.specs.Values.{Values, levelValues}
 use Rattle.trellis.specs.Trellis.{searched}
 use Rattle.trellis.specs.Demand.{Search as Kind, trellis, wholeTrellis, supercodeTrellis}
 use Rattle.concatenated.specs.Lists.{All, sum}
@@ -73,6 +73,6 @@ module _ (S : Shape) (outer : RowDecoder) (read : Reader) (page : List (List ℕ
 
 -- ---- the short page
 
--- 01: "One table serves all levels."
+-- 02, point 3: "Every branch value at level i now rises by 2·i."
 abbrev pub shortReader : Kind → ℕ → Reader
-shortReader kind = readerOf kind short (λ i. values)
+shortReader kind = readerOf kind short levelValues

@@ -4,7 +4,7 @@ use mathlib.Core.Path.{_≡_, refl, ap, _∙_}
 use Prim.Native.Nat.{ℕ, _≤_, _<_}
 use native.Mathlib.Omega.{arith}
 use lib.Count.{ones}
-use lib.Dec.{lit≤}
+use lib.Dec.{lit<, lit≤}
 use lib.IntN.{ℤ}
 use lib.ListN.{replicate, getD, getD-replicate}
 use lib.Signed.{ltZ}
@@ -24,7 +24,7 @@ use Rattle.paths.specs.Keys.{with-key}
 use Rattle.trellis.specs.Values.{branch, reading, doubt}
 use Rattle.trellis.specs.Order.{number, sum, zeroFirst, before}
 use Rattle.trellis.specs.Demand.{Search, whole, supercode}
-use Rattle.trellis.proofs.ZeroColumn.{zero-column-in-30-steps, zero-column-spent-at-29}
+use Rattle.trellis.proofs.ZeroColumn.{zero-column-in-30-steps, zero-column-spent-below-30}
 use Rattle.store_searches.specs.Searches.{number as answerNumber, place, word, count, Allowed, outcomeAnswer}
 use Rattle.store_searches.proofs.Calls.{asked}
 use Rattle.known.specs.FourBits.{beginsSome}
@@ -42,13 +42,13 @@ allowed-zeros limit i some most h = record { full = refl; level = h; some = some
 zeros-in-30-steps : (s : Search) → Holds (levels (zeroColumn s 30) 0 0 0 30)
 unfolding outcomeAnswer
 zeros-in-30-steps s i h =
-    let found = asked s i (replicate 30 0) 30 (allowed-zeros 30 i (lit≤ tt) (lit≤ tt) h) ∙ ap outcomeAnswer (zero-column-in-30-steps s i h) in
+    let found = asked s i (replicate 30 0) 30 (allowed-zeros 30 i (lit≤ tt) (lit≤ tt) h) ∙ ap outcomeAnswer (zero-column-in-30-steps s i h 30 (lit≤ tt)) in
     (ap answerNumber found, ap place found, ap word found, ap count found)
 
 zeros-spent-at-29 : (s : Search) → Holds (levels (zeroColumn s 29) 9 0 0 0)
 unfolding outcomeAnswer
 zeros-spent-at-29 s i h =
-    let refused = asked s i (replicate 30 0) 29 (allowed-zeros 29 i (lit≤ tt) (lit≤ tt) h) ∙ ap outcomeAnswer (zero-column-spent-at-29 s i h) in
+    let refused = asked s i (replicate 30 0) 29 (allowed-zeros 29 i (lit≤ tt) (lit≤ tt) h) ∙ ap outcomeAnswer (zero-column-spent-below-30 s i h 29 (lit< tt)) in
     (ap answerNumber refused, ap place refused, ap word refused, ap count refused)
 
 pub known-values : AllHold cases

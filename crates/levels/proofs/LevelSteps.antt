@@ -5,7 +5,7 @@ use mathlib.Core.Path.{_≡_, refl, sym, ap, ap₂, _∙_, subst⁻¹}
 use Prim.Native.Nat.{ℕ, _<_}
 use lib.ListN.{length, length-map}
 use Rattle.column.specs.Shape.{short}
-use Rattle.trellis.specs.Values.{values}
+use Rattle.trellis.specs.Values.{levelValues}
 use Rattle.trellis.specs.Demand.{Search as Kind}
 use Rattle.trellis.proofs.Short.{searchable}
 use Rattle.reedsolomon.specs.Search.{WordOf, OuterAnswer, Found, NoneInReach}
@@ -41,7 +41,7 @@ read-long kind limit i work xs ms n e read =
 pub read-symbols : (kind : Kind) (limit i : ℕ) → i < 4 → (work : List (List ℕ)) (xs ms : List ℕ) (n : ℕ) → RowRead i (map (shortReader kind limit i) work) xs ms n → Symbols 6 xs
 read-symbols kind limit i h work xs ms n read =
     let ys = symbols short i (map (shortReader kind limit i) work) in
-    subst⁻¹ (Symbols 6) (read .symbols-are) (word-is-of-symbols 6 (length ys) ys (below-is-word 64 ys (symbols-in-range short i (searchable i h) (λ k. values) limit kind work)))
+    subst⁻¹ (Symbols 6) (read .symbols-are) (word-is-of-symbols 6 (length ys) ys (below-is-word 64 ys (symbols-in-range short i (searchable i h) levelValues limit kind work)))
 
 -- the row of a level is a word of 63 symbols
 pub row-is-a-word : (i : ℕ) → i < 4 → (rs : List Reading) → length rs ≡ 63 → (r : List ℕ) → decodedRow short shortOuter i rs ≡ Found r → WordOf 64 63 r

@@ -2,8 +2,6 @@
 ghost use mathlib.Core.Path.{_≡_};
 ghost use Prim.Native.Nat.{_<_, _≤_};
 ghost use lib.ListN.{length};
-ghost use Rattle.trellis.specs.Values.{values};
-ghost use Rattle.extension.specs.Steps.{tableOf};
 ghost use Rattle.stack.specs.Places.{Room};
 ghost use Rattle.concatenated.specs.Readers.{shortReader};
 ghost use Rattle.concatenated.specs.Arrays.{SoftColumns};
@@ -32,12 +30,11 @@ fn decode_level(
     level: usize,
     limit: u64,
     in_supercodes: bool,
-    table: &[i16; 16],
     sums: &mut [i16; 2002],
     lens: &mut [u8; 2002],
     bits: &mut [u64; 2002],
 ) -> LevelOut
-    requires { ⌜ (level < 4) × (limit ≤ 2000) × SoftColumns (now work) × (now table ≡ tableOf values) × Room (now sums) (now lens) (now bits) ⌝ }
+    requires { ⌜ (level < 4) × (limit ≤ 2000) × SoftColumns (now work) × Room (now sums) (now lens) (now bits) ⌝ }
     ensures { λ r. ⌜ LevelDone (shortReader (searchOf in_supercodes) limit) level (now (work .entry)) r (now (work .exit)) × (r .count ≤ 126000)
         × SoftColumns (now (work .exit)) × Room (now (sums .exit)) (now (lens .exit)) (now (bits .exit)) ⌝ }
 {
@@ -48,7 +45,6 @@ fn decode_level(
         &*work,
         limit,
         in_supercodes,
-        table,
         sums,
         lens,
         bits,
@@ -82,7 +78,6 @@ pub fn decode_columns(
     work: &mut [[u8; 30]; 63],
     limit: u64,
     in_supercodes: bool,
-    table: &[i16; 16],
     sums: &mut [i16; 2002],
     lens: &mut [u8; 2002],
     bits: &mut [u64; 2002],
@@ -90,7 +85,7 @@ pub fn decode_columns(
     changes: &mut [[u8; 63]; 4],
     erased: &mut [[u8; 63]; 4],
 ) -> ColumnsOutcome
-    requires { ⌜ (limit ≤ 2000) × SoftColumns (now work) × (now table ≡ tableOf values) × Room (now sums) (now lens) (now bits)
+    requires { ⌜ (limit ≤ 2000) × SoftColumns (now work) × Room (now sums) (now lens) (now bits)
         × (length (now held) ≡ 4) × (length (now changes) ≡ 4) × (length (now erased) ≡ 4) ⌝ }
     ensures { λ r. ⌜ ColumnsDone (shortReader (searchOf in_supercodes) limit) (now (work .entry)) r (now (held .exit)) (now (changes .exit)) (now (erased .exit)) ⌝ }
 {
@@ -102,7 +97,6 @@ pub fn decode_columns(
             level,
             limit,
             in_supercodes,
-            table,
             &mut *sums,
             &mut *lens,
             &mut *bits,

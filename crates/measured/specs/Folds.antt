@@ -7,7 +7,7 @@ use lib.Dec.{eqb, ltb, leb}
 use lib.ListN.{length, take, drop}
 use Rattle.column.specs.Shape.{short}
 use Rattle.paths.specs.Search.{SearchResult}
-use Rattle.trellis.specs.Values.{values}
+use Rattle.trellis.specs.Values.{levelValues}
 use Rattle.trellis.specs.Demand.{Search, trellis}
 use Rattle.trellis.specs.Trellis.{searched}
 use Rattle.search.specs.Outcomes.{codeOutcome, searchOf}
@@ -34,4 +34,4 @@ measuredAnswer s level soft limit =
     ask (ltb level 4) 0
     (ask (leb limit 2000) 0
     (ask (leb (length soft) (firstAbove soft 7)) 0
-    (foldedColumns (λ c. searched (trellis s short values c level) limit) soft (length soft / 30))))
+    (foldedColumns (λ c. searched (trellis s short (levelValues level) c level) limit) soft (length soft / 30))))

@@ -3,10 +3,10 @@ ghost use Prim.Native.Nat.{ℕ, _/_, _<_, _≤_};
 ghost use mathlib.Core.Path.{_≡_};
 ghost use lib.ListN.{length, getD};
 ghost use Rattle.column.specs.Shape.{short};
-ghost use Rattle.trellis.specs.Values.{values};
+ghost use Rattle.trellis.specs.Values.{levelValues};
 ghost use Rattle.trellis.specs.Demand.{Search, trellis};
 ghost use Rattle.trellis.specs.Trellis.{searched};
-ghost use Rattle.trellis.specs.Keys.{MasksFor};
+ghost use Rattle.search.specs.Outcomes.{TablesFor};
 ghost use Rattle.measured.specs.Folds.{folded as foldedOf, foldedColumns, named, measuredAnswer};
 use search::SearchOutcome;
 
@@ -21,18 +21,22 @@ fn folded(found: SearchOutcome) -> u64
 }
 
 // The answers of the columns of a buffer, 30 values each, as one number.
-fn search_all(soft: &[u8], left: &[u64; 30], right: &[u64; 30], limit: u64) -> u64
+fn search_all(
+    soft: &[u8],
+    left: &[u64; 30],
+    right: &[u64; 30],
+    values: &[i16; 16],
+    limit: u64,
+) -> u64
     requires { ⌜ limit ≤ 2000 ⌝ }
     requires { ⌜ ((k : ℕ) → k < length (now soft) → getD (now soft) k 0 ≤ 7) ⌝ }
-    requires { ⌜ (length (now left) ≡ 30) × (length (now right) ≡ 30) ⌝ }
-    requires { ⌜ ((s : Search) × (i : ℕ) × (i < 4) × MasksFor s short i (now left) (now right)) ⌝ }
-    ensures { λ r. ⌜ ((s : Search) (i : ℕ) → i < 4 → MasksFor s short i (now (left .entry)) (now (right .entry))
-        → r ≡ foldedColumns (λ c. searched (trellis s short values c i) limit) (now (soft .entry)) (length (now (soft .entry)) / 30)) ⌝ }
+    requires { ⌜ ((s : Search) × (i : ℕ) × (i < 4) × TablesFor s i (now left) (now right) (now values)) ⌝ }
+    ensures { λ r. ⌜ ((s : Search) (i : ℕ) → i < 4 → TablesFor s i (now (left .entry)) (now (right .entry)) (now (values .entry))
+        → r ≡ foldedColumns (λ c. searched (trellis s short (levelValues i) c i) limit) (now (soft .entry)) (length (now (soft .entry)) / 30)) ⌝ }
 {
     let mut sums = [0i16; 2002];
     let mut lens = [0u8; 2002];
     let mut bits = [0u64; 2002];
-    let table = search::short_page::values();
     let mut fold: u64 = 0;
     let mut a: usize = 0;
     while 30 <= soft.len() - a {
@@ -44,7 +48,7 @@ fn search_all(soft: &[u8], left: &[u64; 30], right: &[u64; 30], limit: u64) -> u
             &soft[a..e],
             left,
             right,
-            &table,
+            values,
             limit,
         );
         fold = fold ^ folded(found);
@@ -67,8 +71,9 @@ pub extern "C" fn measured_searches(level: u64, soft: &[u8], limit: u64, superco
     if questions::first_above(soft, 7) < soft.len() {
         return 0;
     }
-    let masks = search::short_page::masks_of(level as usize, supercode != 0);
-    let left = masks.left;
-    let right = masks.right;
-    search_all(soft, &left, &right, limit)
+    let tables = search::short_page::tables_of(level as usize, supercode != 0);
+    let left = tables.left;
+    let right = tables.right;
+    let values = tables.values;
+    search_all(soft, &left, &right, &values, limit)
 }

@@ -78,7 +78,6 @@ pub fn decode_page(soft: &[u8], limit: u64, in_supercodes: bool, data: &mut [u8]
 {
     let mut work = [[0u8; 30]; 63];
     look::load(soft, &mut work);
-    let table = search::short_page::values();
     let mut sums = [0i16; 2002];
     let mut lens = [0u8; 2002];
     let mut bits = [0u64; 2002];
@@ -89,7 +88,6 @@ pub fn decode_page(soft: &[u8], limit: u64, in_supercodes: bool, data: &mut [u8]
         &mut work,
         limit,
         in_supercodes,
-        &table,
         &mut sums,
         &mut lens,
         &mut bits,

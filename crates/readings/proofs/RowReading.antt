@@ -10,7 +10,7 @@ use lib.Seq.{take-suc, take-all}
 use Rattle.column.specs.Shape.{short}
 use Rattle.paths.specs.Search.{SearchResult, answer}
 use Rattle.paths.specs.Search
-use Rattle.trellis.specs.Values.{values}
+use Rattle.trellis.specs.Values.{levelValues}
 use Rattle.trellis.specs.Demand.{Search as Kind, trellis}
 use Rattle.trellis.specs.Trellis.{searched}
 use Rattle.search.specs.Outcomes.{codeOutcome}
@@ -35,24 +35,24 @@ by-code limit (answer w n) = refl
 by-code limit (Search.spent n) = refl
 
 module _ (kind : Kind) (limit i : ℕ) (h : i < 4) (c : List ℕ) where
-  module _ (r : SearchOutcome) (e : r ≡ codeOutcome (searched (trellis kind short values c i) limit)) where
+  module _ (r : SearchOutcome) (e : r ≡ codeOutcome (searched (trellis kind short (levelValues i) c i) limit)) where
     -- the code's search is the reading
     pub reads-it : asReading limit r ≡ shortReader kind limit i c
     unfolding readerOf
-    reads-it = ap (asReading limit) e ∙ by-code limit (searched (trellis kind short values c i) limit)
+    reads-it = ap (asReading limit) e ∙ by-code limit (searched (trellis kind short (levelValues i) c i) limit)
 
-  pub word-in-range : (r : SearchOutcome) → r ≡ codeOutcome (searched (trellis kind short values c i) limit) → WordInRange r
-  word-in-range (Found w n) e = found-is-a-word short i (searchable i h) (λ k. values) limit c kind w n (sym (reads-it (Found w n) e)) .0
+  pub word-in-range : (r : SearchOutcome) → r ≡ codeOutcome (searched (trellis kind short (levelValues i) c i) limit) → WordInRange r
+  word-in-range (Found w n) e = found-is-a-word short i (searchable i h) levelValues limit c kind w n (sym (reads-it (Found w n) e)) .0
   word-in-range Spent e = tt
 
   pub count-within-the-limit : count (shortReader kind limit i c) ≤ limit
   unfolding readerOf readingOf count
-  count-within-the-limit = go (searched (trellis kind short values c i) limit) refl
+  count-within-the-limit = go (searched (trellis kind short (levelValues i) c i) limit) refl
     where
-      go : (o : SearchResult ℕ) → searched (trellis kind short values c i) limit ≡ o → count (shortReader kind limit i c) ≤ limit
+      go : (o : SearchResult ℕ) → searched (trellis kind short (levelValues i) c i) limit ≡ o → count (shortReader kind limit i c) ≤ limit
       go (answer w n) e =
-          let best = one-codeword-is-ahead-of-all short i (searchable i h) values c in
-          let told = found-is-ahead-of-all short i (searchable i h) (λ k. values) limit c kind (best .0) (best .1) w n (ap (readingOf limit) e) in
+          let best = one-codeword-is-ahead-of-all short i (searchable i h) (levelValues i) c in
+          let told = found-is-ahead-of-all short i (searchable i h) levelValues limit c kind (best .0) (best .1) w n (ap (readingOf limit) e) in
           subst⁻¹ (λ (o : SearchResult ℕ). count (readingOf limit o) ≤ limit) e (omega (arith, told .1, told .2))
       go (Search.spent n) e = subst⁻¹ (λ (o : SearchResult ℕ). count (readingOf limit o) ≤ limit) e (le-refl limit)
 

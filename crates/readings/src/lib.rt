@@ -4,8 +4,6 @@ ghost use mathlib.Core.Path.{_≡_};
 ghost use Prim.Native.Nat.{_<_, _≤_};
 ghost use lib.ListN.{length};
 ghost use Rattle.column.specs.Shape.{short};
-ghost use Rattle.trellis.specs.Values.{values};
-ghost use Rattle.extension.specs.Steps.{tableOf};
 ghost use Rattle.stack.specs.Places.{Room};
 ghost use Rattle.search.specs.Outcomes.{searchOf};
 ghost use Rattle.concatenated.specs.Decode.{symbol, mark, count};
@@ -46,20 +44,20 @@ pub fn read_row(
     work: &[[u8; 30]; 63],
     limit: u64,
     in_supercodes: bool,
-    table: &[i16; 16],
     sums: &mut [i16; 2002],
     lens: &mut [u8; 2002],
     bits: &mut [u64; 2002],
     symbols: &mut [u8; 63],
     marks: &mut [u8; 63],
 ) -> u64
-    requires { ⌜ (level < 4) × (limit ≤ 2000) × SoftColumns (now work) × (now table ≡ tableOf values) × Room (now sums) (now lens) (now bits) × (length (now symbols) ≡ 63) × (length (now marks) ≡ 63) ⌝ }
+    requires { ⌜ (level < 4) × (limit ≤ 2000) × SoftColumns (now work) × Room (now sums) (now lens) (now bits) × (length (now symbols) ≡ 63) × (length (now marks) ≡ 63) ⌝ }
     ensures { λ r. ⌜ RowRead level (map (shortReader (searchOf in_supercodes) limit level) (now (work .entry))) (now (symbols .exit)) (now (marks .exit)) r
         × Room (now (sums .exit)) (now (lens .exit)) (now (bits .exit)) ⌝ }
 {
-    let masks = search::short_page::masks_of(level, in_supercodes);
-    let left = masks.left;
-    let right = masks.right;
+    let tables = search::short_page::tables_of(level, in_supercodes);
+    let left = tables.left;
+    let right = tables.right;
+    let values = tables.values;
     let mut sum: u64 = 0;
     let mut j: usize = 0;
     while j < 63 {
@@ -71,7 +69,7 @@ pub fn read_row(
             &column,
             &left,
             &right,
-            table,
+            &values,
             limit,
         );
         let e = enter(level, limit, found);

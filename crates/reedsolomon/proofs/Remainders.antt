@@ -8,10 +8,11 @@ use lib.ListN.{length, replicate}
 use Rattle.poly.specs.Polynomial.{add}
 use Rattle.poly.proofs.Sum.{lt-or-le}
 use Rattle.field.specs.Element.{mul, α, Primitive}
-use Rattle.reedsolomon.specs.Words.{Codeword}
+use Rattle.reedsolomon.specs.Words.{Codeword, syndrome}
 use Rattle.reedsolomon.specs.Search.{WordOf}
 use Rattle.reedsolomon.specs.Row.{symbol, Symbols, IsCodeword, HasInFront, encodedRow}
 use Rattle.reedsolomon.specs.Steps.{WrittenAt, IsRemainder}
+use Rattle.reedsolomon.proofs.Polynomials.{value-of-zeros}
 use Rattle.reedsolomon.proofs.Encoding.{data-with-remainder-are-a-codeword}
 use Rattle.reedsolomon.proofs.Answers.{K, encoded-row-if}
 
@@ -19,6 +20,11 @@ pub zeros-at : (n j : ℕ) → symbol (replicate n 0) j ≡ 0
 zeros-at zero j = refl
 zeros-at (suc n) zero = refl
 zeros-at (suc n) (suc j) = zeros-at n j
+
+-- zeros are a codeword
+pub zeros-are-a-codeword : (m g N T : ℕ) → Primitive m g → N < 2 ^ m → (n : ℕ) → IsCodeword m g N T (replicate n 0)
+unfolding IsCodeword syndrome
+zeros-are-a-codeword m g N T t few n i l = value-of-zeros (K m g N T t few) N (symbol (replicate n 0)) _ (λ j u. zeros-at n j)
 
 -- a codeword of N symbols with the data d in front
 abbrev pub RowOf : (m g N T : ℕ) → List ℕ → List ℕ → Type 0

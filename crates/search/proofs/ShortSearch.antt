@@ -1,56 +1,53 @@
--- The short page's search by lent masks is 01's search. Assumes nothing.
+-- The short page's search by lent tables is 01's search with the values of the level. Assumes nothing.
 use mathlib.Core.List.{List}
 use mathlib.Core.Logic.{_⊎_, inl}
-use mathlib.Core.Path.{_≡_, refl, sym, ap, _∙_, subst}
-use Prim.Native.Nat.{ℕ, suc, suc-le-suc, _≤_, _<_, _/_, _%_}
+use mathlib.Core.Path.{_≡_, refl, sym, ap, _∙_, subst, subst⁻¹}
+use Prim.Native.Nat.{ℕ, suc, suc-le-suc, _≤_, _<_, _%_}
 use lib.Dec.{lit<, lit≤}
-use lib.IntN.{ℤ}
+use lib.IntN.{ℤ, pos, natAbs}
 use lib.ListN.{length, getD}
 use Rattle.column.specs.Shape.{Code, short, levelCode}
 use Rattle.column.specs.Mask.{maskOf, MasksOf}
 use Rattle.column.proofs.Checks.{mask-odd-or-zero}
 use Rattle.column.proofs.Short as Shape
-use Rattle.column.proofs.Tabulated.{tabulated-length}
 use Rattle.paths.specs.Search.{SearchResult, answer, spent}
-use Rattle.trellis.specs.Values.{values, branch}
+use Rattle.trellis.specs.Values.{Values, levelValues}
 use Rattle.trellis.specs.Keys.{Key, MasksFor, keySearch}
 use Rattle.trellis.specs.Demand.{Search, whole, supercode, trellis}
 use Rattle.trellis.specs.Trellis.{searched}
-use Rattle.extension.specs.Steps.{ZeroOrOdd, Given, TableOf, tableOf}
-use Rattle.search.specs.Outcomes.{outcomeOf, codeOutcome, Searchable30}
+use Rattle.extension.specs.Steps.{ZeroOrOdd, Given, TableOf}
+use Rattle.search.specs.Outcomes.{outcomeOf, codeOutcome, TablesFor, Searchable30}
 use Rattle.search.specs.declared.SearchOutcome.{SearchOutcome}
 use Rattle.trellis.proofs.Keys.{by-bits, key-search-is-the-search}
 use Rattle.trellis.proofs.Short.{searchable}
-use Rattle.search.proofs.Tables.{table-of, table-near}
+use Rattle.search.proofs.Tables.{table-of, table-length, table-near}
 
-pub given-short : (soft left right : List ℕ) (table : List ℤ) → table ≡ tableOf values → Searchable30 soft left right → Given 30 soft left right table
-given-short soft left right table e s =
-    subst (Given 30 soft left right) (sym e)
-    (record {
+pub given-short : (soft left right : List ℕ) (table : List ℤ) → Searchable30 soft left right table → Given 30 soft left right table
+given-short soft left right table s =
+    record {
       some = lit< tt;
       most = lit≤ tt;
       softs = s .softs;
       lefts = s .lefts;
       rights = s .rights;
-      entries = tabulated-length (λ k. branch values (k / 8) (k % 8)) 0 16;
+      entries = s .entries;
       soft = s .soft-range;
       left = s .left-odd;
       right = s .right-odd;
-      near = table-near;
-    })
-
-pub table-short : (table : List ℤ) → table ≡ tableOf values → TableOf values table
-table-short table e = subst (TableOf values) (sym e) (table-of values)
+      near = s .near;
+    }
 
 by-number : (o : SearchResult Key) → outcomeOf o ≡ codeOutcome (by-bits o)
 unfolding outcomeOf codeOutcome
 by-number (answer k c) = refl
 by-number (spent c) = refl
 
-pub search-short : (s : Search) (i : ℕ) → i < 4 → (soft left right : List ℕ) → MasksFor s short i left right → (limit : ℕ) (r : SearchOutcome)
-    → r ≡ outcomeOf (keySearch 30 values soft left right limit) → r ≡ codeOutcome (searched (trellis s short values soft i) limit)
-search-short s i h soft left right masks limit r e =
-    e ∙ by-number (keySearch 30 values soft left right limit) ∙ ap codeOutcome (key-search-is-the-search short i (searchable i h) values soft left right s masks limit)
+pub search-short : (s : Search) (i : ℕ) → i < 4 → (soft left right : List ℕ) (table : List ℤ) → TablesFor s i left right table → (limit : ℕ) (r : SearchOutcome)
+    → ((vs : Values) → TableOf vs table → r ≡ outcomeOf (keySearch 30 vs soft left right limit)) → r ≡ codeOutcome (searched (trellis s short (levelValues i) soft i) limit)
+search-short s i h soft left right table tables limit r e =
+    e (levelValues i) (subst⁻¹ (TableOf (levelValues i)) (tables .values) (table-of (levelValues i)))
+    ∙ by-number (keySearch 30 (levelValues i) soft left right limit)
+    ∙ ap codeOutcome (key-search-is-the-search short i (searchable i h) (levelValues i) soft left right s (tables .masks) limit)
 
 masks-odd : (C : Code) (masks : List ℕ) → ((t : ℕ) → (maskOf 30 C (suc t) ≡ 0) ⊎ (maskOf 30 C (suc t) % 2 ≡ 1)) → MasksOf 30 C masks → (k : ℕ) → k < 30 → ZeroOrOdd (getD masks k 0)
 masks-odd C masks odd of k h = subst ZeroOrOdd (sym (of k h)) (odd k)
@@ -65,15 +62,18 @@ masks-are-odd supercode i h left right masks = (
   masks-odd (short .supercodes i .right) right (mask-odd-or-zero 30 (short .supercodes i .right) (Shape.split i h .right-degree)) (masks .1),
 )
 
--- a soft column and the masks of a search are what the search asks for
-pub column-searchable : (s : Search) (i : ℕ) → i < 4 → (soft left right : List ℕ) → length soft ≡ 30 → ((k : ℕ) → k < 30 → getD soft k 0 ≤ 7)
-    → MasksFor s short i left right → length left ≡ 30 → length right ≡ 30 → Searchable30 soft left right
-column-searchable s i h soft left right long range masks hl hr =
+-- a soft column and the tables of a search are what the search asks for
+pub column-searchable : (s : Search) (i : ℕ) → i < 4 → (soft left right : List ℕ) (table : List ℤ) → length soft ≡ 30 → ((k : ℕ) → k < 30 → getD soft k 0 ≤ 7)
+    → TablesFor s i left right table → Searchable30 soft left right table
+column-searchable s i h soft left right table long range tables =
+    let odd = masks-are-odd s i h left right (tables .masks) in
     record {
       softs = long;
-      lefts = hl;
-      rights = hr;
+      lefts = tables .lefts;
+      rights = tables .rights;
+      entries = ap length (tables .values) ∙ table-length (levelValues i);
       soft-range = λ k l. suc-le-suc (range k l);
-      left-odd = masks-are-odd s i h left right masks .0;
-      right-odd = masks-are-odd s i h left right masks .1;
+      left-odd = odd .0;
+      right-odd = odd .1;
+      near = λ k l. subst⁻¹ (λ (t : List ℤ). natAbs (getD t k (pos 0)) ≤ 60) (tables .values) (table-near i h k);
     }

@@ -1,17 +1,24 @@
--- The table of branch values: its entries, and that each lies within 60 of zero. Assumes nothing.
+-- The table of branch values: its entries, that each lies within 60 of zero, and the raising of 01's table to that of a level. Assumes nothing.
 use mathlib.Core.Bool.{Bool, true, false}
 use mathlib.Core.List.{List, [], _∷_}
-use mathlib.Core.Path.{_≡_, ap₂, _∙_}
+use mathlib.Core.Logic.{_⊎_, inl, inr, ⊎-elim}
+use mathlib.Core.Path.{_≡_, refl, sym, ap, ap₂, _∙_, subst, subst⁻¹}
 use Prim.Native.Nat.{ℕ, zero, suc, _+_, _*_, _/_, _%_, _≤_, _<_}
+use native.Mathlib.Nat.{eq-or-lt-of-le, le-of-suc-le-suc, suc-inj}
 use native.Mathlib.Omega.{arith}
 use lib.Dec.{T, leb, leb→le}
-use lib.IntN.{ℤ, pos, natAbs}
-use lib.ListN.{getD}
+use lib.IntN.{ℤ, pos, natAbs, _+ℤ_}
+use lib.ListN.{length, getD, set, length-set}
+use lib.Seq.{getD-set-same, getD-set-other, ext-getD}
+use mir.Syntax.{w16}
+use mir.Val.{SFits}
 use Rattle.column.specs.Tabulated.{tabulated}
-use Rattle.column.proofs.Tabulated.{tabulated-at}
-use Rattle.trellis.specs.Values.{Values, values, reading, doubt, branch}
+use Rattle.column.proofs.Tabulated.{tabulated-length, tabulated-at}
+use Rattle.trellis.specs.Values.{Values, values, levelValues, reading, doubt, branch}
 use Rattle.trellis.specs.Order.{bit}
+use Rattle.trellis.proofs.Values.{branch-at-level, level-0-has-the-values-of-01}
 use Rattle.trellis.proofs.Order.{bit-below}
+use Rattle.stack.proofs.Sums.{add-near, near-fits}
 use Rattle.extension.specs.Steps.{TableOf, tableOf}
 
 pub table-of : (vs : Values) → TableOf vs (tableOf vs)
@@ -22,6 +29,9 @@ table-of vs = record {
       let place : (bit b * 8 + q) % 8 ≡ q = omega arith in
       tabulated-at (λ k. branch vs (k / 8) (k % 8)) 16 (bit b * 8 + q) (pos 0) inside ∙ ap₂ (branch vs) row place;
 }
+
+pub table-length : (vs : Values) → length (tableOf vs) ≡ 16
+table-length vs = tabulated-length (λ k. branch vs (k / 8) (k % 8)) 0 16
 
 -- each entry lies within 60 of zero
 abbrev near : List ℤ → Bool
@@ -37,6 +47,46 @@ near-at (x ∷ xs) t k = go (leb (natAbs x) 60) (leb→le (natAbs x) 60) t (near
     go true e t others zero = e tt
     go true e t others (suc k) = others t k
 
-pub table-near : (k : ℕ) → k < 16 → natAbs (getD (tableOf values) k (pos 0)) ≤ 60
-unfolding tabulated branch reading doubt
-table-near k h = near-at (tableOf values) tt k
+pub table-near : (i : ℕ) → i < 4 → (k : ℕ) → natAbs (getD (tableOf (levelValues i)) k (pos 0)) ≤ 60
+unfolding tabulated levelValues branch reading doubt
+table-near zero h = near-at (tableOf (levelValues 0)) tt
+table-near (suc zero) h = near-at (tableOf (levelValues 1)) tt
+table-near (suc (suc zero)) h = near-at (tableOf (levelValues 2)) tt
+table-near (suc (suc (suc zero))) h = near-at (tableOf (levelValues 3)) tt
+table-near (suc (suc (suc (suc i)))) h = absurd (omega arith)
+
+-- a value of 01's and what it rises by at a level fit 16 bits, and so does their sum
+pub raising-fits : (i : ℕ) → i < 4 → (k : ℕ) (x : ℤ) → x ≡ getD (tableOf values) k (pos 0) → SFits w16 x × SFits w16 (pos (2 * i)) × SFits w16 (x +ℤ pos (2 * i))
+raising-fits i h k x e =
+    let near : natAbs x ≤ 60 = subst⁻¹ (λ (v : ℤ). natAbs v ≤ 60) e (subst (λ (vs : Values). natAbs (getD (tableOf vs) k (pos 0)) ≤ 60) level-0-has-the-values-of-01 (table-near 0 (omega arith) k)) in
+    (near-fits x (omega arith), near-fits (pos (2 * i)) (omega arith), near-fits (x +ℤ pos (2 * i)) (omega (arith, add-near x (pos (2 * i)))))
+
+-- the first k entries of a table are raised by r, the others are as they were
+pub record RaisedUpTo (r : ℤ) (old : List ℤ) (k : ℕ) (table : List ℤ) : Type 0 where
+  pub long : length table ≡ length old
+  pub raised : (j : ℕ) → j < k → getD table j (pos 0) ≡ getD old j (pos 0) +ℤ r
+  pub left : (j : ℕ) → k ≤ j → getD table j (pos 0) ≡ getD old j (pos 0)
+
+pub none-raised : (r : ℤ) (old : List ℤ) → RaisedUpTo r old 0 old
+none-raised r old = record { long = refl; raised = λ j l. absurd (omega arith); left = λ j l. refl }
+
+pub one-more-raised : (r : ℤ) (old : List ℤ) (k : ℕ) (table : List ℤ) (x : ℤ) → k < length old → RaisedUpTo r old k table → x ≡ getD old k (pos 0) +ℤ r → RaisedUpTo r old (k + 1) (set table k x)
+one-more-raised r old k table x inside so e = record {
+  long = length-set table k x ∙ so .long;
+  raised = λ j l.
+      ⊎-elim (λ same. ap (λ (i : ℕ). getD (set table k x) i (pos 0)) same ∙ getD-set-same table k x (pos 0) (omega (arith, so .long)) ∙ e ∙ ap (λ (i : ℕ). getD old i (pos 0) +ℤ r) (sym same))
+      (λ below. getD-set-other table k j x (pos 0) (λ same. absurd (omega (arith, same, below))) ∙ so .raised j below)
+      (at-or-below j k l);
+  left = λ j l. getD-set-other table k j x (pos 0) (λ same. absurd (omega (arith, same, l))) ∙ so .left j (omega arith);
+}
+  where
+    at-or-below : (j k : ℕ) → j < k + 1 → (j ≡ k) ⊎ (j < k)
+    at-or-below j k l = let up-to : suc j ≤ suc k = omega arith in ⊎-elim (λ e. inl (suc-inj e)) (λ u. inr (le-of-suc-le-suc u)) (eq-or-lt-of-le up-to)
+
+-- 01's table, all of it raised by 2·i, is that of level i
+pub all-raised : (i k : ℕ) (table : List ℤ) → 16 ≤ k → RaisedUpTo (pos (2 * i)) (tableOf values) k table → table ≡ tableOf (levelValues i)
+all-raised i k table enough so =
+    ext-getD (pos 0) table (tableOf (levelValues i)) (so .long ∙ table-length values ∙ sym (table-length (levelValues i)))
+    (λ j l. let inside : j < 16 = omega (arith, so .long, table-length values) in
+    so .raised j (omega arith) ∙ ap (λ (v : ℤ). v +ℤ pos (2 * i)) (tabulated-at (λ k. branch values (k / 8) (k % 8)) 16 j (pos 0) inside)
+    ∙ sym (branch-at-level i (j / 8) (j % 8)) ∙ sym (tabulated-at (λ k. branch (levelValues i) (k / 8) (k % 8)) 16 j (pos 0) inside))

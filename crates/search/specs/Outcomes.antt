@@ -2,12 +2,15 @@
 use mathlib.Core.Bool.{Bool, true, false}
 use mathlib.Core.List.{List}
 use mathlib.Core.Path.{_≡_}
-use Prim.Native.Nat.{ℕ, _<_}
+use Prim.Native.Nat.{ℕ, _≤_, _<_}
+use lib.IntN.{ℤ, pos, natAbs}
 use lib.ListN.{length, getD}
+use Rattle.column.specs.Shape.{short}
 use Rattle.paths.specs.Search.{SearchResult, answer, spent}
-use Rattle.trellis.specs.Keys.{Key}
+use Rattle.trellis.specs.Values.{levelValues}
+use Rattle.trellis.specs.Keys.{Key, MasksFor}
 use Rattle.trellis.specs.Demand.{Search, whole, supercode}
-use Rattle.extension.specs.Steps.{ZeroOrOdd}
+use Rattle.extension.specs.Steps.{ZeroOrOdd, tableOf}
 use Rattle.search.specs.declared.SearchOutcome.{SearchOutcome}
 use Rattle.search.specs.declared.SearchOutcome.the-variants.{Found, Spent}
 
@@ -20,14 +23,23 @@ unfoldable pub codeOutcome : SearchResult ℕ → SearchOutcome
 codeOutcome (answer w c) = Found w c
 codeOutcome (spent c) = Spent
 
--- a soft column of 30 values 0..7, and two tables of masks, each 0 or odd
-pub record Searchable30 (soft left right : List ℕ) : Type 0 where
+-- the tables of a search at a level: its two tables of masks, and the level's branch values
+pub record TablesFor (s : Search) (i : ℕ) (left right : List ℕ) (table : List ℤ) : Type 0 where
+  pub masks : MasksFor s short i left right
+  pub lefts : length left ≡ 30
+  pub rights : length right ≡ 30
+  pub values : table ≡ tableOf (levelValues i)
+
+-- a soft column of 30 values 0..7, two tables of masks, each 0 or odd, and a table of branch values within 60 of zero
+pub record Searchable30 (soft left right : List ℕ) (table : List ℤ) : Type 0 where
   pub softs : length soft ≡ 30
   pub lefts : length left ≡ 30
   pub rights : length right ≡ 30
+  pub entries : length table ≡ 16
   pub soft-range : (k : ℕ) → k < 30 → getD soft k 0 < 8
   pub left-odd : (k : ℕ) → k < 30 → ZeroOrOdd (getD left k 0)
   pub right-odd : (k : ℕ) → k < 30 → ZeroOrOdd (getD right k 0)
+  pub near : (k : ℕ) → k < 16 → natAbs (getD table k (pos 0)) ≤ 60
 
 -- the search that a flag of the code names
 abbrev pub searchOf : Bool → Search

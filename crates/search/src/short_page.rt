@@ -1,19 +1,17 @@
-// The searches of the short page's columns: 30 bits, 01's branch values.
+// The searches of the short page's columns: 30 bits, the branch values of the level.
 ghost use Prim.Native.Nat.{ℕ, _<_, _≤_};
 ghost use mathlib.Core.Path.{_≡_};
-ghost use lib.ListN.{length};
 ghost use Rattle.column.specs.Shape.{short};
-ghost use Rattle.trellis.specs.Values.{values as branchValues};
+ghost use Rattle.trellis.specs.Values.{values as branchValues, levelValues};
 ghost use Rattle.trellis.specs.Demand.{Search, trellis};
 ghost use Rattle.trellis.specs.Trellis.{searched};
-ghost use Rattle.trellis.specs.Keys.{MasksFor};
 ghost use Rattle.stack.specs.Places.{Room};
 ghost use Rattle.extension.specs.Steps.{tableOf};
-ghost use Rattle.search.specs.Outcomes.{codeOutcome, Searchable30, searchOf};
+ghost use Rattle.search.specs.Outcomes.{codeOutcome, TablesFor, Searchable30, searchOf};
 use crate::SearchOutcome;
 
-// 01's branch values as a table: the entry 8 b + q is what the soft value q gives to the bit b. Made once and lent to the searches.
-pub fn values() -> [i16; 16]
+// 01's branch values as a table: the entry 8 b + q is what the soft value q gives to the bit b.
+fn values() -> [i16; 16]
     ensures { λ r. ⌜ r ≡ tableOf branchValues ⌝ }
 {
     [
@@ -36,30 +34,49 @@ pub fn values() -> [i16; 16]
     ]
 }
 
-// The masks of a search: of the level's code and none, or of its two supercodes.
-pub struct Masks {
+// The branch values of a level as a table: 01's, each raised by 2 · level (02, point 3).
+fn level_values(level: usize) -> [i16; 16]
+    requires { ⌜ level < 4 ⌝ }
+    ensures { λ r. ⌜ r ≡ tableOf (levelValues level) ⌝ }
+{
+    let rise = (2 * level) as i16;
+    let mut table = values();
+    let mut k: usize = 0;
+    while k < 16 {
+        table[k] += rise;
+        k += 1;
+    }
+    table
+}
+
+// The tables that a search at a level reads: the masks of the level's code and none, or of its two supercodes; and the level's branch values.
+pub struct Tables {
     pub left: [u64; 30],
     pub right: [u64; 30],
+    pub values: [i16; 16],
 }
 
-// The masks of either search at a level. Made once and lent to the searches.
-pub fn masks_of(level: usize, in_supercodes: bool) -> Masks
+// The tables of either search at a level. Made once a level and lent to the searches.
+pub fn tables_of(level: usize, in_supercodes: bool) -> Tables
     requires { ⌜ level < 4 ⌝ }
-    ensures { λ r. ⌜ MasksFor (searchOf in_supercodes) short level (r .left) (r .right) × (length (r .left) ≡ 30) × (length (r .right) ≡ 30) ⌝ }
+    ensures { λ r. ⌜ TablesFor (searchOf in_supercodes) level (r .left) (r .right) (r .values) ⌝ }
 {
+    let values = level_values(level);
     if in_supercodes {
-        return Masks {
+        return Tables {
             left: column::masks::left_masks(level),
             right: column::masks::right_masks(level),
+            values: values,
         };
     }
-    Masks {
+    Tables {
         left: column::masks::level_masks(level),
         right: column::masks::no_masks(),
+        values: values,
     }
 }
 
-// The search of a soft column over lent arrays, which may hold anything: the whole or the supercode search of a level, by the masks that are lent.
+// The search of a soft column over lent arrays, which may hold anything: the whole or the supercode search of a level, by the tables that are lent.
 pub fn search_column(
     sums: &mut [i16; 2002],
     lens: &mut [u8; 2002],
@@ -67,16 +84,15 @@ pub fn search_column(
     soft: &[u8],
     left: &[u64],
     right: &[u64],
-    table: &[i16; 16],
+    values: &[i16; 16],
     limit: u64,
 ) -> SearchOutcome
     requires { ⌜ limit ≤ 2000 ⌝ }
-    requires { ⌜ now table ≡ tableOf branchValues ⌝ }
-    requires { ⌜ Searchable30 (now soft) (now left) (now right) ⌝ }
+    requires { ⌜ Searchable30 (now soft) (now left) (now right) (now values) ⌝ }
     requires { ⌜ Room (now sums) (now lens) (now bits) ⌝ }
     ensures { λ r. ⌜ Room (now (sums .exit)) (now (lens .exit)) (now (bits .exit)) ⌝ }
-    ensures { λ r. ⌜ ((s : Search) (i : ℕ) → i < 4 → MasksFor s short i (now (left .entry)) (now (right .entry))
-        → r ≡ codeOutcome (searched (trellis s short branchValues (now (soft .entry)) i) limit)) ⌝ }
+    ensures { λ r. ⌜ ((s : Search) (i : ℕ) → i < 4 → TablesFor s i (now (left .entry)) (now (right .entry)) (now (values .entry))
+        → r ≡ codeOutcome (searched (trellis s short (levelValues i) (now (soft .entry)) i) limit)) ⌝ }
 {
-    crate::search(sums, lens, bits, 30, soft, left, right, table, limit)
+    crate::search(sums, lens, bits, 30, soft, left, right, values, limit)
 }

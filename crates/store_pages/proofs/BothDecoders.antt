@@ -7,7 +7,7 @@ use native.Mathlib.Omega.{arith}
 use lib.Dec.{eqb, leb}
 use lib.ListN.{length}
 use Rattle.column.specs.Shape.{short}
-use Rattle.trellis.specs.Values.{values}
+use Rattle.trellis.specs.Values.{levelValues}
 use Rattle.trellis.specs.Demand.{whole, supercode}
 use Rattle.concatenated.specs.Format.{shortPage}
 use Rattle.concatenated.specs.SoftPage.{softColumns}
@@ -57,7 +57,7 @@ asked-alike d soft limit old s w same =
 module _ (soft : List ℕ) (limit : ℕ) (none-spent : NoneSpent short shortOuter (shortReader supercode limit) (softColumns shortPage soft)) where
   -- all dead paths ahead of the codewords of the page's column searches together
   abbrev pub deadPaths : ℕ
-  deadPaths = sumBelow short shortOuter (shortReader supercode limit) (softColumns shortPage soft) (deadAhead short (λ i. values) limit) 4
+  deadPaths = sumBelow short shortOuter (shortReader supercode limit) (softColumns shortPage soft) (deadAhead short levelValues limit) 4
 
   -- Where no supercode search at levels 1..3 that the supercode decoder makes is spent, both calls give the same bytes, number, place and totals, and the step
   -- sums of an answered page differ by exactly the dead paths ahead. That the changed and erased columns are the same sets is `decoders-agree`.

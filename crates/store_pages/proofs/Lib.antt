@@ -2,3 +2,4 @@ pub mod Asked
 pub mod SoftValues
 pub mod BothDecoders
 pub mod WrittenPages
+pub mod ZeroPage

@@ -25,7 +25,7 @@ use Rattle.questions.proofs.AllInRange.{no-value-above}
 use Rattle.store_pages.proofs.Asked.{all-yes}
 
 module _ (soft : List ℕ) (values-soft : Values 1890 7 soft) (limit : ℕ) (some : 1 ≤ limit) (at-most : limit ≤ 2000) (old : List ℕ) (room : length old ≡ 150) where
-  accepted : (A : Type 0) (refusal : ℕ → ℕ → A) (next : A) → next ≡ askPage soft limit old refusal next
+  pub accepted : (A : Type 0) (refusal : ℕ → ℕ → A) (next : A) → next ≡ askPage soft limit old refusal next
   accepted = all-yes soft limit old (values-soft .size) room some at-most (leb-true 1890 (firstAbove soft 7) (no-value-above soft 1890 7 (values-soft .size) (values-soft .range)))
 
   -- what `encode_page` wrote, read within reach at each level, comes back from the call

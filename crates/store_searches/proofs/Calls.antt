@@ -11,7 +11,7 @@ use Rattle.column.specs.Shape.{short}
 use Rattle.paths.specs.Lists.{Lists}
 use Rattle.paths.specs.Paths.{Path}
 use Rattle.paths.specs.Tree.{number as rank}
-use Rattle.trellis.specs.Values.{values}
+use Rattle.trellis.specs.Values.{levelValues}
 use Rattle.trellis.specs.Order.{number as columnOf}
 use Rattle.trellis.specs.Trellis.{searched}
 use Rattle.trellis.specs.Demand.{Search, whole, supercode, trellis, AheadOfAll, Counted, DeadAhead}
@@ -24,21 +24,21 @@ use Rattle.store_searches.specs.declared.SearchAnswer.the-variants.{Foun
 
 module _ (s : Search) (level : ℕ) (soft : List ℕ) (limit : ℕ) (allowed : Allowed level soft limit) where
   -- only question 9 is left
-  pub asked : searchAnswer s level soft limit ≡ outcomeAnswer (searched (trellis s short values soft level) limit)
+  pub asked : searchAnswer s level soft limit ≡ outcomeAnswer (searched (trellis s short (levelValues level) soft level) limit)
   asked =
       rw (eq-eqb _ _ (allowed .full), lt-ltb _ _ (allowed .level), le-leb _ _ (allowed .some), le-leb _ _ (allowed .most), no-value-above soft 30 7 (allowed .full) (allowed .range))
 
   -- one codeword is ahead of all others, and the search's paths that are prefixes of it or ahead of it can be listed
-  pub one-word-and-its-paths : (w : Path) × AheadOfAll short values soft level w × ((v : Path) → AheadOfAll short values soft level v → v ≡ w) × (ps : List Path) × Lists (Counted s short values soft level w) ps
+  pub one-word-and-its-paths : (w : Path) × AheadOfAll short (levelValues level) soft level w × ((v : Path) → AheadOfAll short (levelValues level) soft level v → v ≡ w) × (ps : List Path) × Lists (Counted s short (levelValues level) soft level w) ps
   one-word-and-its-paths =
       let best = one-codeword-is-ahead-of-all level (allowed .level) soft in
-      let paths = rank-is-a-number-of-paths short level (searchable level (allowed .level)) values soft (best .0) s in
+      let paths = rank-is-a-number-of-paths short level (searchable level (allowed .level)) (levelValues level) soft (best .0) s in
       (best .0, best .1, best .2, paths .0, paths .1)
 
   -- w is that codeword, and ps a list of these paths
-  module _ (w : Path) (best : AheadOfAll short values soft level w) (ps : List Path) (listed : Lists (Counted s short values soft level w) ps) where
-    many : length ps ≡ rank (trellis s short values soft level) w
-    many = rank-counts short level (searchable level (allowed .level)) values soft w s ps listed
+  module _ (w : Path) (best : AheadOfAll short (levelValues level) soft level w) (ps : List Path) (listed : Lists (Counted s short (levelValues level) soft level w) ps) where
+    many : length ps ≡ rank (trellis s short (levelValues level) soft level) w
+    many = rank-counts short level (searchable level (allowed .level)) (levelValues level) soft w s ps listed
 
     pub call-answers-within-the-limit : length ps ≤ limit
         → (searchAnswer s level soft limit ≡ Found (columnOf w) (length ps)) × Is (searchAnswer s level soft limit) 0 0 (columnOf w) (length ps)
@@ -64,23 +64,23 @@ module _ (s : Search) (level : ℕ) (soft : List ℕ) (limit : ℕ) (allowed : A
         go nine (no l) = omega arith
 
 -- demand 3: "the whole-trellis decoder's count is smaller by exactly the dead paths ahead of that codeword": of two calls on one column, ds a list of these paths
-module _ (level : ℕ) (soft : List ℕ) (limit : ℕ) (allowed : Allowed level soft limit) (w : Path) (best : AheadOfAll short values soft level w) (ds : List Path) (dead : Lists (DeadAhead short values soft level w) ds) where
+module _ (level : ℕ) (soft : List ℕ) (limit : ℕ) (allowed : Allowed level soft limit) (w : Path) (best : AheadOfAll short (levelValues level) soft level w) (ds : List Path) (dead : Lists (DeadAhead short (levelValues level) soft level w) ds) where
   pub calls-differ-by-the-dead-ahead : number (searchAnswer supercode level soft limit) ≡ 0
       → (number (searchAnswer whole level soft limit) ≡ 0) × (word (searchAnswer whole level soft limit) ≡ word (searchAnswer supercode level soft limit))
       × (count (searchAnswer supercode level soft limit) ≡ count (searchAnswer whole level soft limit) + length ds)
   unfolding outcomeAnswer
-  calls-differ-by-the-dead-ahead zero = go (decLe (rank (trellis supercode short values soft level) w) limit)
+  calls-differ-by-the-dead-ahead zero = go (decLe (rank (trellis supercode short (levelValues level) soft level) w) limit)
     where
       given : Searchable short level
       given = searchable level (allowed .level)
 
-      found : (s : Search) → rank (trellis s short values soft level) w ≤ limit → searchAnswer s level soft limit ≡ Found (columnOf w) (rank (trellis s short values soft level) w)
+      found : (s : Search) → rank (trellis s short (levelValues level) soft level) w ≤ limit → searchAnswer s level soft limit ≡ Found (columnOf w) (rank (trellis s short (levelValues level) soft level) w)
       found s l = asked s level soft limit allowed ∙ ap outcomeAnswer (answers-within-the-limit level (allowed .level) soft s w best limit l)
 
-      differ : rank (trellis supercode short values soft level) w ≡ rank (trellis whole short values soft level) w + length ds
-      differ = ranks-differ-by-the-dead-ahead short level given values soft w (best .codeword) ∙ ap (λ (d : ℕ). rank (trellis whole short values soft level) w + d) (sym (dead-ahead-counts short level given values soft w ds dead))
+      differ : rank (trellis supercode short (levelValues level) soft level) w ≡ rank (trellis whole short (levelValues level) soft level) w + length ds
+      differ = ranks-differ-by-the-dead-ahead short level given (levelValues level) soft w (best .codeword) ∙ ap (λ (d : ℕ). rank (trellis whole short (levelValues level) soft level) w + d) (sym (dead-ahead-counts short level given (levelValues level) soft w ds dead))
 
-      go : Dec (rank (trellis supercode short values soft level) w ≤ limit)
+      go : Dec (rank (trellis supercode short (levelValues level) soft level) w ≤ limit)
           → (number (searchAnswer whole level soft limit) ≡ 0) × (word (searchAnswer whole level soft limit) ≡ word (searchAnswer supercode level soft limit))
           × (count (searchAnswer supercode level soft limit) ≡ count (searchAnswer whole level soft limit) + length ds)
       go (yes l) =

@@ -6,7 +6,7 @@ use lib.Dec.{eqb, ltb, leb}
 use lib.ListN.{length, getD}
 use Rattle.column.specs.Shape.{short}
 use Rattle.paths.specs.Search.{SearchResult, answer, spent}
-use Rattle.trellis.specs.Values.{values}
+use Rattle.trellis.specs.Values.{levelValues}
 use Rattle.trellis.specs.Demand.{Search, trellis}
 use Rattle.trellis.specs.Trellis.{searched}
 use Rattle.questions.specs.Questions.{ask, firstAbove}
@@ -63,4 +63,4 @@ searchAnswer s level soft limit =
     (ask (leb 1 limit) (Refused 4 0)
     (ask (leb limit 2000) (Refused 4 0)
     (ask (leb 30 (firstAbove soft 7)) (Refused 5 (firstAbove soft 7))
-    (outcomeAnswer (searched (trellis s short values soft level) limit))))))
+    (outcomeAnswer (searched (trellis s short (levelValues level) soft level) limit))))))

@@ -2,11 +2,10 @@
 ghost use Prim.Native.Nat.{ℕ, _<_, _≤_};
 ghost use mathlib.Core.Path.{_≡_};
 ghost use Rattle.column.specs.Shape.{short};
-ghost use Rattle.trellis.specs.Values.{values};
+ghost use Rattle.trellis.specs.Values.{levelValues};
 ghost use Rattle.trellis.specs.Demand.{Search, whole, supercode, trellis};
 ghost use Rattle.trellis.specs.Trellis.{searched};
-ghost use Rattle.trellis.specs.Keys.{MasksFor};
-ghost use Rattle.search.specs.Outcomes.{Searchable30, searchOf};
+ghost use Rattle.search.specs.Outcomes.{TablesFor, Searchable30, searchOf};
 ghost use Rattle.store_searches.specs.Searches.{Answered, searchAnswer, outcomeAnswer};
 use search::SearchOutcome;
 
@@ -16,17 +15,22 @@ pub enum SearchAnswer {
     Refused(u64, u64),
 }
 
-// The search with masks that are lent, over arrays of its own.
-fn search_by_masks(soft: &[u8], left: &[u64; 30], right: &[u64; 30], limit: u64) -> SearchAnswer
+// The search with tables that are lent, over arrays of its own.
+fn search_by_tables(
+    soft: &[u8],
+    left: &[u64; 30],
+    right: &[u64; 30],
+    values: &[i16; 16],
+    limit: u64,
+) -> SearchAnswer
     requires { ⌜ limit ≤ 2000 ⌝ }
-    requires { ⌜ Searchable30 (now soft) (now left) (now right) ⌝ }
-    ensures { λ r. ⌜ ((s : Search) (i : ℕ) → i < 4 → MasksFor s short i (now (left .entry)) (now (right .entry))
-        → r ≡ outcomeAnswer (searched (trellis s short values (now (soft .entry)) i) limit)) ⌝ }
+    requires { ⌜ Searchable30 (now soft) (now left) (now right) (now values) ⌝ }
+    ensures { λ r. ⌜ ((s : Search) (i : ℕ) → i < 4 → TablesFor s i (now (left .entry)) (now (right .entry)) (now (values .entry))
+        → r ≡ outcomeAnswer (searched (trellis s short (levelValues i) (now (soft .entry)) i) limit)) ⌝ }
 {
     let mut sums = [0i16; 2002];
     let mut lens = [0u8; 2002];
     let mut bits = [0u64; 2002];
-    let table = search::short_page::values();
     let found = search::short_page::search_column(
         &mut sums,
         &mut lens,
@@ -34,7 +38,7 @@ fn search_by_masks(soft: &[u8], left: &[u64; 30], right: &[u64; 30], limit: u64)
         soft,
         left,
         right,
-        &table,
+        values,
         limit,
     );
     match found {
@@ -43,7 +47,7 @@ fn search_by_masks(soft: &[u8], left: &[u64; 30], right: &[u64; 30], limit: u64)
     }
 }
 
-// Either search: the questions in their order, then the search by its masks.
+// Either search: the questions in their order, then the search by its tables.
 fn search_either(level: u64, soft: &[u8], limit: u64, in_supercodes: bool) -> SearchAnswer
     ensures { λ r. ⌜ r ≡ searchAnswer (searchOf in_supercodes) level (now (soft .entry)) limit ⌝ }
 {
@@ -63,10 +67,11 @@ fn search_either(level: u64, soft: &[u8], limit: u64, in_supercodes: bool) -> Se
     if bad < 30 {
         return SearchAnswer::Refused(5, bad as u64);
     }
-    let masks = search::short_page::masks_of(level as usize, in_supercodes);
-    let left = masks.left;
-    let right = masks.right;
-    search_by_masks(soft, &left, &right, limit)
+    let tables = search::short_page::tables_of(level as usize, in_supercodes);
+    let left = tables.left;
+    let right = tables.right;
+    let values = tables.values;
+    search_by_tables(soft, &left, &right, &values, limit)
 }
 
 // The whole search of a column: the word and the count. Refused by 1, 3, 4, 5 and 9.

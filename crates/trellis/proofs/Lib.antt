@@ -1,4 +1,5 @@
 pub mod Strict
+pub mod Values
 pub mod Order
 pub mod Existence
 pub mod Sound

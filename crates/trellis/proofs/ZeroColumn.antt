@@ -1,7 +1,8 @@
--- 01: "all-zero column, each level: limit 30 gives 0 in 30 steps; limit 29 gives 9", computed on keys with the tables of masks. Assumes nothing.
+-- 01: "all-zero column, each level: limit 30 gives 0 in 30 steps; limit 29 gives 9": one search is computed on keys with the tables of masks, and demand 3 has
+-- the other limits from it. Assumes nothing.
 use mathlib.Core.List.{List}
-use mathlib.Core.Path.{_≡_, refl, sym, _∙_}
-use Prim.Native.Nat.{ℕ, zero, suc, _<_}
+use mathlib.Core.Path.{_≡_, refl, sym, ap₂, _∙_, subst⁻¹}
+use Prim.Native.Nat.{ℕ, zero, suc, _≤_, _<_}
 use native.Mathlib.Omega.{arith}
 use lib.Count.{ones}
 use lib.ListN.{replicate, getD-replicate}
@@ -10,15 +11,18 @@ use Rattle.column.specs.Shape.{generator, degree, levelCode, short}
 use Rattle.column.specs.Mask.{parity}
 use Rattle.column.specs.Tabulated.{tabulated}
 use Rattle.column.proofs.MaskTable.{residues, maskBy, maskTable, masks-of}
+use Rattle.paths.specs.Paths.{Path}
+use Rattle.paths.specs.Tree.{number as rank}
 use Rattle.paths.specs.Stack.{insert, push, extend, grow}
 use Rattle.paths.specs.Search.{answer, spent}
 use Rattle.paths.specs.Keys.{run-keys}
-use Rattle.trellis.specs.Values.{values, reading, doubt, branch}
+use Rattle.trellis.specs.Values.{levelValues, reading, doubt, branch}
+use Rattle.trellis.specs.Order.{number}
 use Rattle.trellis.specs.Trellis.{searched}
-use Rattle.trellis.specs.Demand.{Search, whole, supercode, trellis}
+use Rattle.trellis.specs.Demand.{Search, whole, supercode, trellis, AheadOfAll}
 use Rattle.trellis.specs.Keys.{keyBefore, keyExtension, keyPasses, MasksFor, keySearch}
 use Rattle.trellis.proofs.Keys.{by-bits, key-search-is-the-search}
-use Rattle.trellis.proofs.Short.{searchable}
+use Rattle.trellis.proofs.Short.{searchable, one-codeword-is-ahead-of-all, answers-within-the-limit, is-spent-above-the-limit, answer-is-ahead-of-all}
 
 abbrev pub zeroColumn : List ℕ
 zeroColumn = replicate 30 0
@@ -36,21 +40,33 @@ masks-for : (s : Search) (i : ℕ) → MasksFor s short i (left s i) (right s i)
 masks-for whole i = (masks-of 30 (levelCode short i), λ k l. getD-replicate 30 k 0 0 l)
 masks-for supercode i = (masks-of 30 (short .supercodes i .left), masks-of 30 (short .supercodes i .right))
 
-zero-column-keys : (s : Search) (i : ℕ) → i < 4
-    → (by-bits (keySearch 30 values zeroColumn (left s i) (right s i) 30) ≡ answer 0 30) × (by-bits (keySearch 30 values zeroColumn (left s i) (right s i) 29) ≡ spent 29)
-unfolding keySearch run-keys extend push insert grow keyExtension keyBefore keyPasses parity ones branch reading doubt maskTable tabulated maskBy residues generator degree product productIn remainder remainderIn reduced scale add
-zero-column-keys whole zero h = (refl, refl)
-zero-column-keys whole (suc zero) h = (refl, refl)
-zero-column-keys whole (suc (suc zero)) h = (refl, refl)
-zero-column-keys whole (suc (suc (suc zero))) h = (refl, refl)
-zero-column-keys supercode zero h = (refl, refl)
-zero-column-keys supercode (suc zero) h = (refl, refl)
-zero-column-keys supercode (suc (suc zero)) h = (refl, refl)
-zero-column-keys supercode (suc (suc (suc zero))) h = (refl, refl)
+zero-column-keys : (s : Search) (i : ℕ) → i < 4 → by-bits (keySearch 30 (levelValues i) zeroColumn (left s i) (right s i) 30) ≡ answer 0 30
+unfolding keySearch run-keys extend push insert grow keyExtension keyBefore keyPasses parity ones levelValues branch reading doubt maskTable tabulated maskBy residues generator degree product productIn remainder remainderIn reduced scale add
+zero-column-keys whole zero h = refl
+zero-column-keys whole (suc zero) h = refl
+zero-column-keys whole (suc (suc zero)) h = refl
+zero-column-keys whole (suc (suc (suc zero))) h = refl
+zero-column-keys supercode zero h = refl
+zero-column-keys supercode (suc zero) h = refl
+zero-column-keys supercode (suc (suc zero)) h = refl
+zero-column-keys supercode (suc (suc (suc zero))) h = refl
 zero-column-keys s (suc (suc (suc (suc i)))) h = absurd (omega arith)
 
-pub zero-column-in-30-steps : (s : Search) (i : ℕ) → i < 4 → searched (trellis s short values zeroColumn i) 30 ≡ answer 0 30
-zero-column-in-30-steps s i h = sym (key-search-is-the-search short i (searchable i h) values zeroColumn (left s i) (right s i) s (masks-for s i) 30) ∙ zero-column-keys s i h .0
+module _ (s : Search) (i : ℕ) (h : i < 4) where
+  -- the codeword ahead of all others is 0, and 30 paths are counted
+  zero-is-ahead-of-all : (w : Path) × AheadOfAll short (levelValues i) zeroColumn i w × (number w ≡ 0) × (rank (trellis s short (levelValues i) zeroColumn i) w ≡ 30)
+  zero-is-ahead-of-all =
+      let best = one-codeword-is-ahead-of-all i h zeroColumn in
+      let found = sym (key-search-is-the-search short i (searchable i h) (levelValues i) zeroColumn (left s i) (right s i) s (masks-for s i) 30) ∙ zero-column-keys s i h in
+      let told = answer-is-ahead-of-all i h zeroColumn s (best .0) (best .1) 30 0 30 found in
+      (best .0, best .1, sym (told .0), sym (told .1))
 
-pub zero-column-spent-at-29 : (s : Search) (i : ℕ) → i < 4 → searched (trellis s short values zeroColumn i) 29 ≡ spent 29
-zero-column-spent-at-29 s i h = sym (key-search-is-the-search short i (searchable i h) values zeroColumn (left s i) (right s i) s (masks-for s i) 29) ∙ zero-column-keys s i h .1
+  pub zero-column-in-30-steps : (limit : ℕ) → 30 ≤ limit → searched (trellis s short (levelValues i) zeroColumn i) limit ≡ answer 0 30
+  zero-column-in-30-steps limit l =
+      let w = zero-is-ahead-of-all in
+      answers-within-the-limit i h zeroColumn s (w .0) (w .1) limit (subst⁻¹ (λ (n : ℕ). n ≤ limit) (w .3) l) ∙ ap₂ answer (w .2) (w .3)
+
+  pub zero-column-spent-below-30 : (limit : ℕ) → limit < 30 → searched (trellis s short (levelValues i) zeroColumn i) limit ≡ spent limit
+  zero-column-spent-below-30 limit l =
+      let w = zero-is-ahead-of-all in
+      is-spent-above-the-limit i h zeroColumn s (w .0) (w .1) limit (subst⁻¹ (λ (n : ℕ). limit < n) (w .3) l)

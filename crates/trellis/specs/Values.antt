@@ -1,9 +1,9 @@
--- 01: what a soft value gives to a bit. Assumes nothing.
+-- 01: what a soft value gives to a bit; 02, point 3: what it gives at a level. Assumes nothing.
 use mathlib.Core.Bool.{cond}
-use mathlib.Core.List.{List, [], _∷_}
-use Prim.Native.Nat.{ℕ, _-_}
+use mathlib.Core.List.{List, [], _∷_, map}
+use Prim.Native.Nat.{ℕ, _-_, _*_}
 use lib.Dec.{ltb, eqb}
-use lib.IntN.{ℤ, pos, negsuc}
+use lib.IntN.{ℤ, pos, negsuc, _+ℤ_}
 use lib.ListN.{getD}
 
 -- 01: "0..3 read as bit 0, 4..7 as bit 1"
@@ -29,3 +29,11 @@ values = record {
 -- 01: "branch value" of a bit where the soft value q was read
 unfoldable pub branch : Values → ℕ → ℕ → ℤ
 branch vs b q = cond (eqb (reading q) b) (getD (vs .agree) (doubt q) (pos 0)) (getD (vs .disagree) (doubt q) (pos 0))
+
+-- every value raised by k
+abbrev pub raised : ℕ → Values → Values
+raised k vs = record { agree = map (λ v. v +ℤ pos k) (vs .agree); disagree = map (λ v. v +ℤ pos k) (vs .disagree) }
+
+-- 02, point 3: "Every branch value at level i now rises by 2·i."
+unfoldable pub levelValues : ℕ → Values
+levelValues i = raised (2 * i) values

@@ -10,19 +10,19 @@ use Rattle.levels.proofs.decode_columns.Statement.{statement}
 use Rattle.levels.proofs.decode_columns.Tie as tie
 
 abbrev Inv-loop : tie.InvT-loop
-Inv-loop work₀ limit in-supercodes table sums₀ lens₀ bits₀ held₀ changes₀ erased₀ sum₀ level₀ work sums lens bits held changes erased sum level = Decoding (shortReader (searchOf in-supercodes) limit) work₀ work held changes erased sum level × Room sums lens bits
+Inv-loop work₀ limit in-supercodes sums₀ lens₀ bits₀ held₀ changes₀ erased₀ sum₀ level₀ work sums lens bits held changes erased sum level = Decoding (shortReader (searchOf in-supercodes) limit) work₀ work held changes erased sum level × Room sums lens bits
 
 abbrev μ-loop : tie.MeasureT-loop
-μ-loop work₀ limit in-supercodes table sums₀ lens₀ bits₀ held₀ changes₀ erased₀ sum₀ level₀ work sums lens bits held changes erased sum level = 4 - level
+μ-loop work₀ limit in-supercodes sums₀ lens₀ bits₀ held₀ changes₀ erased₀ sum₀ level₀ work sums lens bits held changes erased sum level = 4 - level
 
 loop-holds : tie.Need-loop-holds Inv-loop μ-loop
-loop-holds c = (decoding-none _ _ _ _ _ (c .pre .1) (c .pre .4) (c .pre .5) (c .pre .6), c .pre .3)
+loop-holds c = (decoding-none _ _ _ _ _ (c .pre .1) (c .pre .3) (c .pre .4) (c .pre .5), c .pre .2)
 
 decode-level-requires : tie.Need-decode-level-requires Inv-loop μ-loop
 decode-level-requires c κs =
     let turn = c .before .before .before .before .before in
     let start = turn .before in
-    (c .before .before .before .before .loop-test .taken, start .pre .0, turn .loop .inv .0 .soft, start .pre .2, turn .loop .inv .1)
+    (c .before .before .before .before .loop-test .taken, start .pre .0, turn .loop .inv .0 .soft, turn .loop .inv .1)
 
 returns : tie.Need-returns Inv-loop μ-loop
 returns c =

@@ -27,29 +27,28 @@ returns-3 c =
     let bad : firstAbove soft 7 < length soft = subst (λ (t : ℕ). t < length soft) (told .first-above .ensures) (c .if3 .taken) in
     simp (lt-ltb _ _ (told .before .before .if1 .left), le-leb _ _ (told .before .if2 .left), lt-leb _ _ bad)
 
-masks-of-requires : tie.Need-masks-of-requires
-masks-of-requires c κs = search needs
+tables-of-requires : tie.Need-tables-of-requires
+tables-of-requires c κs = search needs
 
 search-all-requires : tie.Need-search-all-requires
 search-all-requires c κs =
-    let made = c .before .before .before .before in
+    let made = c .before .before .before .before .before .before in
     let good = made .before in
     let told = good .before in
     let start = told .before .before .before .before in
     let soft = start .args .soft .now in
     let values : length soft ≤ firstAbove soft 7 = subst (λ (t : ℕ). length soft ≤ t) (told .first-above .ensures) (good .if3 .left) in
-    let masks = made .masks-of .ensures in
-    (told .before .if2 .left, (λ k h. below-first soft 7 k (omega arith), ((masks .1, masks .2), (named (start .args .supercode), start .args .level, told .before .before .if1 .left, masks .0))))
+    (told .before .if2 .left, (λ k h. below-first soft 7 k (omega arith), (named (start .args .supercode), start .args .level, told .before .before .if1 .left, made .tables-of .ensures)))
 
 returns-4 : tie.Need-returns-4
 returns-4 c =
-    let made = c .before .before .before .before .before in
+    let made = c .before .before .before .before .before .before .before in
     let good = made .before in
     let told = good .before in
     let start = told .before .before .before .before in
     let soft = start .args .soft .now in
     let values : length soft ≤ firstAbove soft 7 = subst (λ (t : ℕ). length soft ≤ t) (told .first-above .ensures) (good .if3 .left) in
-    let found = c .search-all .ensures (named (start .args .supercode)) (start .args .level) (told .before .before .if1 .left) (made .masks-of .ensures .0) in
+    let found = c .search-all .ensures (named (start .args .supercode)) (start .args .level) (told .before .before .if1 .left) (made .tables-of .ensures) in
     simp (lt-ltb _ _ (told .before .before .if1 .left), le-leb _ _ (told .before .if2 .left), le-leb _ _ values, found)
 
 pub measured-searches-spec : {M : Type 1} → statement M
@@ -60,6 +59,6 @@ measured-searches-spec =
     returns-2
     first-above-requires
     returns-3
-    masks-of-requires
+    tables-of-requires
     search-all-requires
     returns-4)

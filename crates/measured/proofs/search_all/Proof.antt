@@ -6,10 +6,10 @@ use lib.Bits.{bitXor}
 use lib.ListN.{length, take, drop}
 use Rattle.column.specs.Shape.{short}
 use Rattle.paths.specs.Search.{SearchResult}
-use Rattle.trellis.specs.Values.{values}
+use Rattle.trellis.specs.Values.{levelValues}
 use Rattle.trellis.specs.Demand.{Search, trellis}
 use Rattle.trellis.specs.Trellis.{searched}
-use Rattle.trellis.specs.Keys.{MasksFor}
+use Rattle.search.specs.Outcomes.{TablesFor}
 use Rattle.stack.specs.Places.{Room}
 use Rattle.search.proofs.ShortSearch.{column-searchable}
 use Rattle.measured.proofs.Parts.{part-long, part-range, Folded, none-folded, one-more-folded, all-folded}
@@ -19,17 +19,14 @@ use Rattle.measured.proofs.search_all.Statement.{statement}
 use Rattle.measured.proofs.search_all.Tie as tie
 
 abbrev Inv-loop : tie.InvT-loop
-Inv-loop soft left right limit sums₀ lens₀ bits₀ table fold₀ a₀ sums lens bits fold a = (a ≤ length soft) × (a % 30 ≡ 0) × Room sums lens bits
-    × ((s : Search) (i : ℕ) → i < 4 → MasksFor s short i left right → Folded (λ c. searched (trellis s short values c i) limit) soft a fold)
+Inv-loop soft left right values limit sums₀ lens₀ bits₀ fold₀ a₀ sums lens bits fold a = (a ≤ length soft) × (a % 30 ≡ 0) × Room sums lens bits
+    × ((s : Search) (i : ℕ) → i < 4 → TablesFor s i left right values → Folded (λ c. searched (trellis s short (levelValues i) c i) limit) soft a fold)
 
 abbrev μ-loop : tie.MeasureT-loop
-μ-loop soft left right limit sums₀ lens₀ bits₀ table fold₀ a₀ sums lens bits fold a = length soft - a
-
-values-requires : tie.Need-values-requires Inv-loop μ-loop
-values-requires c κs = search needs
+μ-loop soft left right values limit sums₀ lens₀ bits₀ fold₀ a₀ sums lens bits fold a = length soft - a
 
 loop-holds : tie.Need-loop-holds Inv-loop μ-loop
-loop-holds c = (search needs, search needs, search needs, λ s i h masks. none-folded _ _)
+loop-holds c = (search needs, search needs, search needs, λ s i h tables. none-folded _ _)
 
 sub-loop : tie.Need-sub-loop Inv-loop μ-loop
 sub-loop c = search needs
@@ -48,17 +45,16 @@ part-search-column-end c = search needs
 
 search-column-requires : tie.Need-search-column-requires Inv-loop μ-loop
 search-column-requires c κs =
-    let at-loop = c .before .before .before .before .before .before .before .before in
-    let start = at-loop .before .before .before in
+    let at-loop = c .before .before .before .before .before .before .before in
+    let start = at-loop .before .before in
     let soft = start .args .soft .now in
     let a = at-loop .loop .a in
     let fits : a + 30 ≤ length soft = omega (arith, at-loop .loop .inv .0) in
-    let pre = start .pre .1 in
-    let masks = pre .1 .1 in (
+    let tables = start .pre .1 .1 in (
       start .pre .0,
       (
-        at-loop .before .values .ensures,
-        (column-searchable (masks .0) (masks .1) (masks .2) (take (a + 30 - a) (drop a soft)) _ _ (part-long soft a fits) (part-range soft a fits (pre .0)) (masks .3) (pre .1 .0 .0) (pre .1 .0 .1), at-loop .loop .inv .2),
+        column-searchable (tables .0) (tables .1) (tables .2) (take (a + 30 - a) (drop a soft)) _ _ _ (part-long soft a fits) (part-range soft a fits (start .pre .1 .0)) (tables .3),
+        at-loop .loop .inv .2,
       ),
     )
 
@@ -71,9 +67,9 @@ loop-less c = search needs
 loop-again : tie.Need-loop-again Inv-loop μ-loop
 loop-again c =
     let found = c .before in
-    let turn = found .before .before .before .before .before .before .before .before in
+    let turn = found .before .before .before .before .before .before .before in
     let at-loop = turn .before in
-    let start = at-loop .before .before .before in
+    let start = at-loop .before .before in
     let soft = start .args .soft .now in
     let a = at-loop .loop .a in
     let inv = at-loop .loop .inv in
@@ -82,19 +78,19 @@ loop-again c =
       fits,
       whole,
       found .search-column .ensures .0,
-      λ s i h masks.
-          let search : List ℕ → SearchResult ℕ = λ x. searched (trellis s short values x i) (start .args .limit) in
+      λ s i h tables.
+          let search : List ℕ → SearchResult ℕ = λ x. searched (trellis s short (levelValues i) x i) (start .args .limit) in
           subst⁻¹ (λ (x : ℕ). Folded search soft (a + 30) (bitXor (at-loop .loop .fold) x)) (c .folded .ensures)
-          (one-more-folded search soft a _ _ (inv .1) (inv .3 s i h masks) (found .search-column .ensures .1 s i h masks)),
+          (one-more-folded search soft a _ _ (inv .1) (inv .3 s i h tables) (found .search-column .ensures .1 s i h tables)),
     )
 
 returns : tie.Need-returns Inv-loop μ-loop
 returns c =
     let at-loop = c .before in
     let inv = at-loop .loop .inv in
-    let soft = at-loop .before .before .before .args .soft .now in
+    let soft = at-loop .before .before .args .soft .now in
     let last : length soft - at-loop .loop .a < 30 = omega (arith, c .loop-test .left) in
-    λ s i h masks. all-folded _ soft _ _ (inv .1) (inv .0) last (inv .3 s i h masks)
+    λ s i h tables. all-folded _ soft _ _ (inv .1) (inv .0) last (inv .3 s i h tables)
 
 pub search-all-spec : {M : Type 1} → statement M
 search-all-spec =
@@ -102,7 +98,6 @@ search-all-spec =
     (tie.spec
     Inv-loop
     μ-loop
-    values-requires
     loop-holds
     sub-loop
     add-e

@@ -16,13 +16,10 @@ use Rattle.page.proofs.decode_page.Tie as tie
 load-requires : tie.Need-load-requires
 load-requires c κs = search needs
 
-values-requires : tie.Need-values-requires
-values-requires c κs = search needs
-
 decode-columns-requires : tie.Need-decode-columns-requires
 decode-columns-requires c κs =
-    let start = c .before .before .before .before .before .before .before .before .before .before .before .before .before in
-    (start .pre .2, soft-columns _ _ (start .pre .0) (start .pre .1) (c .before .before .before .before .before .before .before .before .before .load .ensures), c .before .before .before .before .before .before .before .before .values .ensures, record { sums = refl; lens = refl; bits = refl }, refl, refl, refl)
+    let start = c .before .before .before .before .before .before .before .before .before .before .before in
+    (start .pre .2, soft-columns _ _ (start .pre .0) (start .pre .1) (c .before .before .before .before .before .before .before .load .ensures), record { sums = refl; lens = refl; bits = refl }, refl, refl, refl)
 
 enum-known-outcome : tie.Need-enum-known-outcome
 enum-known-outcome c = search needs
@@ -30,7 +27,7 @@ enum-known-outcome c = search needs
 rows-data-requires : tie.Need-rows-data-requires
 rows-data-requires c κs =
     let left = c .before .before .before .before .before in
-    let start = left .before .before .before .before .before .before .before .before .before .before .before .before .before .before in
+    let start = left .before .before .before .before .before .before .before .before .before .before .before .before in
     let read = shortReader (searchOf (start .args .in-supercodes)) (start .args .limit) in
     let told = c .before .before .before .outcome .given in
     let answer = is-answered read _ _ _ _ _ (left .decode-columns .ensures) (told .0 .0) (told .1) in
@@ -39,7 +36,7 @@ rows-data-requires c κs =
 bytes-of-requires : tie.Need-bytes-of-requires
 bytes-of-requires c κs =
     let left = c .before .before .before .before .before .before .before .before in
-    let start = left .before .before .before .before .before .before .before .before .before .before .before .before .before .before in
+    let start = left .before .before .before .before .before .before .before .before .before .before .before .before in
     let read = shortReader (searchOf (start .args .in-supercodes)) (start .args .limit) in
     let told = c .before .before .before .before .before .before .outcome .given in
     let answer = is-answered read _ _ _ _ _ (left .decode-columns .ensures) (told .0 .0) (told .1) in
@@ -49,7 +46,7 @@ bytes-of-requires c κs =
 totals-requires : tie.Need-totals-requires
 totals-requires c κs =
     let left = c .before .before .before .before .before .before .before .before .before .before .before .before in
-    let start = left .before .before .before .before .before .before .before .before .before .before .before .before .before .before in
+    let start = left .before .before .before .before .before .before .before .before .before .before .before .before in
     let read = shortReader (searchOf (start .args .in-supercodes)) (start .args .limit) in
     let told = c .before .before .before .before .before .before .before .before .before .before .outcome .given in
     let answer = is-answered read _ _ _ _ _ (left .decode-columns .ensures) (told .0 .0) (told .1) in
@@ -58,7 +55,7 @@ totals-requires c κs =
 totals-requires-2 : tie.Need-totals-requires-2
 totals-requires-2 c κs =
     let left = c .before .before .before .before .before .before .before .before .before .before .before .before .before .before in
-    let start = left .before .before .before .before .before .before .before .before .before .before .before .before .before .before in
+    let start = left .before .before .before .before .before .before .before .before .before .before .before .before in
     let read = shortReader (searchOf (start .args .in-supercodes)) (start .args .limit) in
     let told = c .before .before .before .before .before .before .before .before .before .before .before .before .outcome .given in
     let answer = is-answered read _ _ _ _ _ (left .decode-columns .ensures) (told .0 .0) (told .1) in
@@ -76,11 +73,11 @@ same-length c = search needs
 returns : tie.Need-returns
 returns c =
     let left = c .before .before .before .before .before .before .before .before .before .before .before .before .before .before .before in
-    let start = left .before .before .before .before .before .before .before .before .before .before .before .before .before .before in
+    let start = left .before .before .before .before .before .before .before .before .before .before .before .before in
     let read = shortReader (searchOf (start .args .in-supercodes)) (start .args .limit) in
     let told = c .before .before .before .before .before .before .before .before .before .before .before .before .before .outcome .given in
     let answer = is-answered read _ _ _ _ _ (left .decode-columns .ensures) (told .0 .0) (told .1) in
-    let loaded = left .before .before .before .before .before .before .before .before .before .before .load .ensures in
+    let loaded = left .before .before .before .before .before .before .before .before .load .ensures in
     let old = start .args .«data» .now in (
       answered-outcome _ _ _ _ _ answer _ _ (c .before .before .totals .ensures) (c .totals2 .ensures) ∙ ap (λ (p : List (List ℕ)). outcomeOf (decoded short shortOuter read p)) loaded,
       answered-data _ _ _ _ _ answer old _ _ (c .before .before .before .before .before .before .before .before .before .rows-data .ensures) (c .before .before .before .before .before .before .bytes-of .ensures) ∙ ap (λ (p : List (List ℕ)). dataAfter old (decoded short shortOuter read p)) loaded,
@@ -89,10 +86,10 @@ returns c =
 returns-2 : tie.Need-returns-2
 returns-2 c =
     let left = c .before .before .before .before in
-    let start = left .before .before .before .before .before .before .before .before .before .before .before .before .before .before in
+    let start = left .before .before .before .before .before .before .before .before .before .before .before .before in
     let read = shortReader (searchOf (start .args .in-supercodes)) (start .args .limit) in
     let told = c .before .before .outcome2 .given in
-    let loaded = left .before .before .before .before .before .before .before .before .before .before .load .ensures in
+    let loaded = left .before .before .before .before .before .before .before .before .load .ensures in
     let old = start .args .«data» .now in
     let refusal = sym (is-refused read _ _ _ _ _ (left .decode-columns .ensures) (told .0 .0) (told .1)) in (
       c .refused .ensures ∙ refusal-is-10 (told .0 .0) ∙ ap outcomeOf refusal ∙ ap (λ (p : List (List ℕ)). outcomeOf (decoded short shortOuter read p)) loaded,
@@ -104,7 +101,6 @@ decode-page-spec =
     tie.close
     (tie.spec
     load-requires
-    values-requires
     decode-columns-requires
     enum-known-outcome
     rows-data-requires

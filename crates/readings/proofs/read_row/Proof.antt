@@ -18,29 +18,29 @@ use Rattle.readings.proofs.read_row.Statement.{statement}
 use Rattle.readings.proofs.read_row.Tie as tie
 
 abbrev Inv-loop : tie.InvT-loop
-Inv-loop level work limit in-supercodes table sums₀ lens₀ bits₀ symbols₀ marks₀ left right sum₀ j₀ sums lens bits symbols marks sum j = RowFilling level (shortReader (searchOf in-supercodes) limit level) work symbols marks sum j × Room sums lens bits
+Inv-loop level work limit in-supercodes sums₀ lens₀ bits₀ symbols₀ marks₀ left right values sum₀ j₀ sums lens bits symbols marks sum j = RowFilling level (shortReader (searchOf in-supercodes) limit level) work symbols marks sum j × Room sums lens bits
 
 abbrev μ-loop : tie.MeasureT-loop
-μ-loop level work limit in-supercodes table sums₀ lens₀ bits₀ symbols₀ marks₀ left right sum₀ j₀ sums lens bits symbols marks sum j = 63 - j
+μ-loop level work limit in-supercodes sums₀ lens₀ bits₀ symbols₀ marks₀ left right values sum₀ j₀ sums lens bits symbols marks sum j = 63 - j
 
 -- ---- what the places share
 
 abbrev start : tie.At-loop Inv-loop μ-loop → tie.Start Inv-loop μ-loop
-start turn = turn .before .before .before .before
+start turn = turn .before .before .before .before .before
 
 -- the turn of the loop that a column is searched in
 abbrev turn-of : tie.After-search-column Inv-loop μ-loop → tie.At-loop Inv-loop μ-loop
-turn-of found = found .before .before .before .before .before .before .before .before .before
+turn-of found = found .before .before .before .before .before .before .before .before .before .before
 
 -- the column's search is its reading
 searched-is : (found : tie.After-search-column Inv-loop μ-loop)
     → asReading (start (turn-of found) .args .limit) (found .search-column .result)
     ≡ shortReader (searchOf (start (turn-of found) .args .in-supercodes)) (start (turn-of found) .args .limit) (start (turn-of found) .args .level) (getD (start (turn-of found) .args .work .now) (turn-of found .loop .j) [])
 searched-is found =
-    let made = turn-of found .before .before .before in
+    let made = turn-of found .before .before .before .before in
     let a = start (turn-of found) in
     let kind = searchOf (a .args .in-supercodes) in
-    reads-it kind (a .args .limit) (a .args .level) (a .pre .0) _ (found .search-column .result) (found .search-column .ensures .1 kind (a .args .level) (a .pre .0) (made .masks-of .ensures .0))
+    reads-it kind (a .args .limit) (a .args .level) (a .pre .0) _ (found .search-column .result) (found .search-column .ensures .1 kind (a .args .level) (a .pre .0) (made .tables-of .ensures))
 
 -- and counts at most the limit
 count-few : (turn : tie.At-loop Inv-loop μ-loop)
@@ -49,13 +49,13 @@ count-few turn =
     let a = start turn in
     omega (arith, count-within-the-limit (searchOf (a .args .in-supercodes)) (a .args .limit) (a .args .level) (a .pre .0) (getD (a .args .work .now) (turn .loop .j) []), a .pre .1)
 
-masks-of-requires : tie.Need-masks-of-requires Inv-loop μ-loop
-masks-of-requires c κs = search needs
+tables-of-requires : tie.Need-tables-of-requires Inv-loop μ-loop
+tables-of-requires c κs = search needs
 
 loop-holds : tie.Need-loop-holds Inv-loop μ-loop
 loop-holds c =
-    let start = c .before .before .before in
-    (nothing-read _ _ _ _ _ (start .pre .2 .many) (start .pre .5) (start .pre .6), start .pre .4)
+    let start = c .before .before .before .before in
+    (nothing-read _ _ _ _ _ (start .pre .2 .many) (start .pre .4) (start .pre .5), start .pre .3)
 
 mul-column : tie.Need-mul-column Inv-loop μ-loop
 mul-column c = search needs
@@ -66,7 +66,7 @@ element-copy-out-column c = search needs
 slice-aggregate-search-column : tie.Need-slice-aggregate-search-column Inv-loop μ-loop
 slice-aggregate-search-column c =
     let turn = c .before .before .before .before .before .before in
-    let start = turn .before .before .before .before in
+    let start = turn .before .before .before .before .before in
     let work = start .args .work .now in
     let long : turn .loop .j < length work = omega (arith, start .pre .2 .many, c .before .before .before .before .before .loop-test .taken) in
     sym (all-at (λ x. (length x ≡ 30) × Soft x) work (turn .loop .j) [] (start .pre .2 .soft) long .0)
@@ -79,22 +79,21 @@ slice-aggregate-search-column-3 c = search needs
 
 search-column-requires : tie.Need-search-column-requires Inv-loop μ-loop
 search-column-requires c κs =
-    let turn = c .before .before .before .before .before .before .before .before in
-    let made = turn .before .before .before in
+    let turn = c .before .before .before .before .before .before .before .before .before in
+    let made = turn .before .before .before .before in
     let start = made .before in
     let work = start .args .work .now in
     let j = turn .loop .j in
-    let long : j < length work = omega (arith, start .pre .2 .many, c .before .before .before .before .before .before .before .loop-test .taken) in
-    let masks = made .masks-of .ensures in
+    let long : j < length work = omega (arith, start .pre .2 .many, c .before .before .before .before .before .before .before .before .loop-test .taken) in
     let soft = all-at (λ x. (length x ≡ 30) × Soft x) work j [] (start .pre .2 .soft) long in
-    (start .pre .1, (start .pre .3, (column-searchable (searchOf (start .args .in-supercodes)) (start .args .level) (start .pre .0) _ _ _ (soft .0) (soft-column (getD work j []) soft) (masks .0) (masks .1) (masks .2), turn .loop .inv .1)))
+    (start .pre .1, (column-searchable (searchOf (start .args .in-supercodes)) (start .args .level) (start .pre .0) _ _ _ _ (soft .0) (soft-column (getD work j []) soft) (made .tables-of .ensures), turn .loop .inv .1))
 
 enter-requires : tie.Need-enter-requires Inv-loop μ-loop
 enter-requires c κs =
-    let made = c .before .before .before .before .before .before .before .before .before .before .before .before in
+    let made = c .before .before .before .before .before .before .before .before .before .before .before .before .before .before in
     let start = made .before in
     let kind = searchOf (start .args .in-supercodes) in
-    (start .pre .0, word-in-range kind _ (start .args .level) (start .pre .0) _ (c .search-column .result) (c .search-column .ensures .1 kind (start .args .level) (start .pre .0) (made .masks-of .ensures .0)))
+    (start .pre .0, word-in-range kind _ (start .args .level) (start .pre .0) _ (c .search-column .result) (c .search-column .ensures .1 kind (start .args .level) (start .pre .0) (made .tables-of .ensures)))
 
 element-write-symbols : tie.Need-element-write-symbols Inv-loop μ-loop
 element-write-symbols c = search needs
@@ -105,7 +104,7 @@ element-write-marks c = search needs
 add-sum : tie.Need-add-sum Inv-loop μ-loop
 add-sum c =
     let found = c .before .before in
-    let j63 = found .before .before .before .before .before .before .before .before .loop-test .taken in
+    let j63 = found .before .before .before .before .before .before .before .before .before .loop-test .taken in
     record { fits = omega (arith, c .before .enter .ensures .2 ∙ ap count (searched-is found), count-few (turn-of found), turn-of found .loop .inv .0 .few, j63) }
 
 add-j : tie.Need-add-j Inv-loop μ-loop
@@ -118,7 +117,7 @@ loop-again : tie.Need-loop-again Inv-loop μ-loop
 loop-again c =
     let found = c .before .before in
     let turn = turn-of found in
-    let j63 = found .before .before .before .before .before .before .before .before .loop-test .taken in
+    let j63 = found .before .before .before .before .before .before .before .before .before .loop-test .taken in
     let entry = c .before .enter .ensures in
     let few : c .before .enter .result .count ≤ 2000 = omega (arith, entry .2 ∙ ap count (searched-is found), count-few turn) in
     (one-more-read _ _ _ _ _ _ _ _ _ _ _ (turn .loop .inv .0) j63 (searched-is found) (entry .0) (entry .1) (entry .2) few, found .search-column .ensures .0)
@@ -132,7 +131,7 @@ read-row-spec =
     (tie.spec
     Inv-loop
     μ-loop
-    masks-of-requires
+    tables-of-requires
     loop-holds
     mul-column
     element-copy-out-column

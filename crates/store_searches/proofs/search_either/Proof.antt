@@ -1,4 +1,4 @@
--- `store_searches::search_either` meets its contract: each return rewrites with the tests that led there; the masks are those of the search. Assumes nothing.
+-- `store_searches::search_either` meets its contract: each return rewrites with the tests that led there; the tables are those of the search. Assumes nothing.
 use mathlib.Core.Path.{subst}
 use Prim.Native.Nat.{ℕ, _≤_, _<_}
 use borrow.Author.Tests.{eq-eqb, ne-eqb, le-ltb, lt-ltb, le-leb, lt-leb}
@@ -33,32 +33,31 @@ returns-5 c =
     let bad : firstAbove soft 7 < 30 = subst (λ (t : ℕ). t < 30) (place .ensures) (c .if5 .taken) in
     simp (eq-eqb _ _ (asked .before .before .before .if1 .left), lt-ltb _ _ (asked .before .before .if2 .left), le-leb _ _ (asked .before .if3 .left), le-leb _ _ (asked .if4 .left), lt-leb _ _ bad, place .ensures)
 
-masks-of-requires : tie.Need-masks-of-requires
-masks-of-requires c κs = search needs
+tables-of-requires : tie.Need-tables-of-requires
+tables-of-requires c κs = search needs
 
-search-by-masks-requires : tie.Need-search-by-masks-requires
-search-by-masks-requires c κs =
-    let made = c .before .before .before .before in
+search-by-tables-requires : tie.Need-search-by-tables-requires
+search-by-tables-requires c κs =
+    let made = c .before .before .before .before .before .before in
     let good = made .before in
     let asked = good .before .before in
     let start = asked .before .before .before .before .before in
     let soft = start .args .soft .now in
-    let values : 30 ≤ firstAbove soft 7 = subst (λ (t : ℕ). 30 ≤ t) (good .before .first-above .ensures) (good .if5 .left) in
-    let masks = made .masks-of .ensures in (
+    let in-range : 30 ≤ firstAbove soft 7 = subst (λ (t : ℕ). 30 ≤ t) (good .before .first-above .ensures) (good .if5 .left) in (
       asked .if4 .left,
-      column-searchable (searchOf (start .args .in-supercodes)) (start .args .level) (asked .before .before .if2 .left) soft _ _ (asked .before .before .before .if1 .left) (asked-range soft values) (masks .0) (masks .1) (masks .2),
+      column-searchable (searchOf (start .args .in-supercodes)) (start .args .level) (asked .before .before .if2 .left) soft _ _ _ (asked .before .before .before .if1 .left) (asked-range soft in-range) (made .tables-of .ensures),
     )
 
 returns-6 : tie.Need-returns-6
 returns-6 c =
-    let made = c .before .before .before .before .before in
+    let made = c .before .before .before .before .before .before .before in
     let good = made .before in
     let asked = good .before .before in
     let start = asked .before .before .before .before .before in
     let soft = start .args .soft .now in
-    let values : 30 ≤ firstAbove soft 7 = subst (λ (t : ℕ). 30 ≤ t) (good .before .first-above .ensures) (good .if5 .left) in
-    let found = c .search-by-masks .ensures (searchOf (start .args .in-supercodes)) (start .args .level) (asked .before .before .if2 .left) (made .masks-of .ensures .0) in
-    simp (eq-eqb _ _ (asked .before .before .before .if1 .left), lt-ltb _ _ (asked .before .before .if2 .left), le-leb _ _ (asked .before .if3 .left), le-leb _ _ (asked .if4 .left), le-leb _ _ values, found)
+    let in-range : 30 ≤ firstAbove soft 7 = subst (λ (t : ℕ). 30 ≤ t) (good .before .first-above .ensures) (good .if5 .left) in
+    let found = c .search-by-tables .ensures (searchOf (start .args .in-supercodes)) (start .args .level) (asked .before .before .if2 .left) (made .tables-of .ensures) in
+    simp (eq-eqb _ _ (asked .before .before .before .if1 .left), lt-ltb _ _ (asked .before .before .if2 .left), le-leb _ _ (asked .before .if3 .left), le-leb _ _ (asked .if4 .left), le-leb _ _ in-range, found)
 
 pub search-either-spec : {M : Type 1} → statement M
 search-either-spec =
@@ -70,6 +69,6 @@ search-either-spec =
     returns-4
     first-above-requires
     returns-5
-    masks-of-requires
-    search-by-masks-requires
+    tables-of-requires
+    search-by-tables-requires
     returns-6)

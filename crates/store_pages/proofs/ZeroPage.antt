@@ -1,0 +1,32 @@
+-- 02, point 3, of the calls: "The step sum of the all-zero page remains 7560." Assumes nothing.
+use mathlib.Core.List.{List, [], _∷_}
+use mathlib.Core.Path.{_≡_, refl, sym, ap, _∙_}
+use Prim.Native.Nat.{ℕ, _≤_}
+use native.Mathlib.Omega.{arith}
+use lib.ListN.{length, getD, getD-replicate, replicate}
+use Rattle.dump.specs.Accepted.{Values}
+use Rattle.trellis.specs.Demand.{Search}
+use Rattle.concatenated.specs.Lists.{total}
+use Rattle.concatenated.specs.Format.{shortPage}
+use Rattle.concatenated.specs.ZeroPage.{zeroPage}
+use Rattle.page.specs.Outcomes.{refusedPage, outcomeOf, dataAfter}
+use Rattle.page.specs.declared.PageOutcome.{PageOutcome}
+use Rattle.concatenated.proofs.ZeroPage.{zero-page-comes-back, zero-levels-hold-zeros}
+use Rattle.store_pages.specs.Pages.{decodedPage, PageDecoded}
+use Rattle.store_pages.proofs.WrittenPages.{accepted}
+
+zeros-are-soft : Values 1890 7 (zeroPage shortPage)
+zeros-are-soft = record { size = refl; range = λ k h. let none : getD {A = ℕ} (replicate 1890 0) k 0 ≡ 0 = getD-replicate 1890 k 0 0 h in omega arith }
+
+-- either decoder, any limit from 30 to 2,000: number 0, place 0, 7560 steps, no column changed or erased, and 150 bytes of zero
+pub zero-page-comes-back-from-the-calls : (s : Search) (limit : ℕ) → 30 ≤ limit → limit ≤ 2000 → (old : List ℕ) → length old ≡ 150
+    → (r : PageOutcome) (new : List ℕ) → PageDecoded s (zeroPage shortPage) limit old r new
+    → (r ≡ record { number = 0; place = 0; steps = 7560; changed = 0 ∷ 0 ∷ 0 ∷ 0 ∷ []; erased = 0 ∷ 0 ∷ 0 ∷ 0 ∷ [] }) × (new ≡ replicate 150 0)
+unfolding outcomeOf dataAfter total
+zero-page-comes-back-from-the-calls s limit enough most old room r new call =
+    let asked = accepted (zeroPage shortPage) zeros-are-soft limit (omega arith) most old room in
+    let D = decodedPage s (zeroPage shortPage) limit in
+    let back = zero-page-comes-back s limit enough in (
+      call .answer ∙ sym (asked PageOutcome refusedPage (outcomeOf D)) ∙ ap outcomeOf back,
+      call .bytes ∙ sym (asked (List ℕ) (λ n p. old) (dataAfter old D)) ∙ ap (dataAfter old) back ∙ zero-levels-hold-zeros,
+    )
