@@ -1,18 +1,23 @@
 #!/usr/bin/env python3
-"""The chance of a bad page by equations 10 to 12 of source document 001, from docs/aging-columns.csv.
+"""The chance of a bad page by equations 10 to 12 of source document 001, from docs/aging-columns.csv and docs/aging-columns-before.csv.
 
-Writes docs/aging-bound.csv, one line a raw bit error rate and limit: the bound from the rates as measured, its four levels, the bound from their upper limits,
-and what stands behind it at levels 2 and 3."""
+Writes docs/aging-bound.csv and docs/aging-bound-before.csv, one line a raw bit error rate and way of reading a page: the bound from the rates as measured with
+its four levels, the bound from their upper limits with its four levels and the part of wrong data by a first decode, and the bounds by words on a misread."""
 import csv
+import itertools
 import math
+import operator
 import os
 from collections import Counter
 
 COLUMNS, BITS, REACH = 63, 30, (30, 12, 6, 4)
-AGREE, DISAGREE = (2, 1, -1, -5), (-60, -35, -20, -11)
+VALUES = (2, 1, -1, -5, -11, -20, -35, -60)  # of a bit 0 by its reading, at level 0
 FACTORS = (67, 87, 103, 73)
 DOUBT = 0.01  # all upper limits of the table hold at once with 1 - DOUBT
 WORDS_FROM = 2  # from this level on misreads are also bounded without sampling
+TABLES = {"aging-columns-before.csv": ("aging-bound-before.csv", 0), "aging-columns.csv": ("aging-bound.csv", 2)}  # and by how much the values rise a level
+LIMITS = (200, 500, 2000)
+WAYS = ((200, 0), (500, 0), (2000, 0), (200, 2000), (500, 2000))  # the limit, and that of a second decode if the first is refused
 DOCS = os.path.join(os.path.dirname(os.path.abspath(__file__)), "..", "docs")
 
 
@@ -22,14 +27,14 @@ def table(name):
         return [{key: float(value) for key, value in row.items()} for row in csv.DictReader(lines)]
 
 
-def level_bound(level, misread, unread):
-    """Equations 10 and 11: the chance that 2 · misread + unread columns are more than T; P_b of a column is the chance of a misread among those read."""
+def row_chance(misread, unread, lost):
+    """Equation 10: the chance that q unread and t misread columns are such that lost(q, t); P_b of a column is the chance of a misread among those read."""
     error = misread / (1 - unread)
     logs = [math.log(x) if x > 0 else -math.inf for x in (unread, 1 - unread, error, 1 - error)]
     total = []
     for q in range(COLUMNS + 1):
         for t in range(COLUMNS - q + 1):
-            if 2 * t + q <= REACH[level]:
+            if not lost(q, t):
                 continue
             terms = ((q, logs[0]), (COLUMNS - q, logs[1]), (t, logs[2]), (COLUMNS - q - t, logs[3]))
             exponent = math.log(math.comb(COLUMNS, q) * math.comb(COLUMNS - q, t)) + sum(n * x for n, x in terms if n)
@@ -37,9 +42,23 @@ def level_bound(level, misread, unread):
     return math.fsum(total)
 
 
-def page_bound(rates):
-    """Equation 12; rates: of each level (misread, unread)."""
-    return math.fsum(level_bound(i, *rates[i]) for i in range(4))
+def level_bound(level, misread, unread):
+    """Equation 11: the chance that 2 · misread + unread columns are more than T."""
+    return row_chance(misread, unread, lambda q, t: 2 * t + q > REACH[level])
+
+
+def wrong_bound(level, misread, unread):
+    """At most the chance that the row gives another word. That word differs from the written one in T + 1 columns or more, so in T + 1 - q that were read; each
+    of these is misread or one of the (T - q) / 2 at most that the row alters. More than T unread are refused; left in, the sum grows with both rates."""
+    return row_chance(misread, unread, lambda q, t: t > max(REACH[level] - q + 1, 0) // 2)
+
+
+def way_bound(rates, way):
+    """Equation 12: of each level its part in the chance of a bad page, and the part of wrong data by a first decode; rates: of each limit and level (misread,
+    unread). A second decode leaves a page bad if its own limit does; a first one adds the pages it answers wrongly."""
+    limit, then = way
+    wrong = [wrong_bound(i, *rates[limit][i]) if then else 0.0 for i in range(4)]
+    return [level_bound(i, *rates[then or limit][i]) + wrong[i] for i in range(4)], math.fsum(wrong)
 
 
 def at_most(seen, count, p):
@@ -75,95 +94,136 @@ def product(a, b):
 
 
 def rivals(level):
-    """Over all words but zero of the level and all lengths t past the first one: how often (ones up to t, ones after t, zeros after t) occurs."""
+    """Over all words but zero of the level and all places t from the first one on: how often (ones before t, bit at t, of each later one the ones and zeros
+    after t up to it) occurs."""
     generator = 1
     for factor in FACTORS[: level + 1]:
         generator = product(generator, factor)
     shapes = Counter()
     for message in range(1, 1 << (6 * (4 - level))):
         word = product(message, generator)
-        left = bin(word).count("1")
-        first = BITS - word.bit_length()
-        ones = 0
-        for t in range(first + 1, BITS + 1):
-            ones += word >> (BITS - t) & 1
-            shapes[ones, left - ones, BITS - t - (left - ones)] += 1
+        bits = [word >> k & 1 for k in reversed(range(BITS))]
+        places = [j for j in range(BITS) if bits[j]]
+        for t in range(places[0], BITS):
+            before = sum(bits[:t])
+            later = places[before + bits[t] :]
+            shapes[before, bits[t], tuple((n + 1, j - t - n - 1) for n, j in enumerate(later)) or ((0, 0),)] += 1
     return shapes
 
 
-def readings(rate):
-    """The chances of the eight readings of a bit written as 0: bench/aging.c's channel."""
-    tail = lambda x: math.erfc(x / math.sqrt(2)) / 2
+def tail(x):
+    return math.erfc(x / math.sqrt(2)) / 2
+
+
+def inverse_tail(rate):
+    """1/σ for a raw bit error rate."""
     low, high = 0.0, 10.0
     for _ in range(100):
         middle = (low + high) / 2
         low, high = (middle, high) if tail(middle) > rate else (low, middle)
-    above = [1.0] + [tail((2 * k + 1) / 7 * low) for k in range(7)] + [0.0]
+    return low
+
+
+def readings(rate):
+    """The chances of the eight readings of a bit written as 0: bench/aging.c's channel."""
+    strength = inverse_tail(rate)
+    above = [1.0] + [tail((2 * k + 1) / 7 * strength) for k in range(7)] + [0.0]
     return [above[k] - above[k + 1] for k in range(8)]
 
 
 def added(sums, chances, values):
-    """The distribution of a sum with one more independent value."""
-    result = {}
-    for total, p in sums.items():
-        for chance, value in zip(chances, values):
-            result[total + value] = result.get(total + value, 0.0) + p * chance
-    return result
+    """The distribution of a sum with one more independent value; a distribution: the lowest sum, and from it upwards the chances."""
+    low, old = sums
+    least = min(values)
+    new = [0.0] * (len(old) + max(values) - least)
+    for chance, value in zip(chances, values):
+        part = slice(value - least, value - least + len(old))
+        new[part] = [a + chance * b for a, b in zip(new[part], old)]
+    return low + least, new
 
 
-def tail_table(sums):
-    """The lowest value, and from it upwards the chance of at least that value."""
-    low, high = min(sums), max(sums)
-    chances = [0.0] * (high - low + 2)
-    for value in range(high, low - 1, -1):
-        chances[value - low] = chances[value - low + 1] + sums.get(value, 0.0)
-    return low, chances
+def not_below(sums, count):
+    """Entry k of `count`: the chance of a sum of -k or more; the largest sum is not below 0."""
+    low, chances = sums
+    tails = list(itertools.accumulate(reversed(chances)))[low + len(chances) - 1 :][:count]
+    return tails + [1.0] * (count - len(tails))
 
 
-def misread_bound(shapes, rate):
-    """At most this share of columns is misread, whatever the limit. A word r comes out for the written c only if r is ahead of c (demand 3): for the length t of
-    c's last-placed prefix past their shared beginning, sum(r up to t) >= sum(c up to t) and sum(r) >= sum(c up to t). Added over all r and t."""
-    chances = readings(rate)
-    written = [AGREE[q] if q < 4 else DISAGREE[7 - q] for q in range(8)]
-    other = written[::-1]
-    gain = [b - a for a, b in zip(written, other)]
-    gains = [{0: 1.0}]
-    while len(gains) <= max(k for k, _, _ in shapes):
+def ahead_at(shapes, chances, written):
+    """Of (ones before t, bit at t) the chances that another word's sum at t is 0, 1, ... above the written one's and that this one falls there."""
+    gain = [b - a for a, b in zip(written, reversed(written))]
+    falling = [n for n in range(8) if written[n] < 0]
+    gains = [(0, [1.0])]
+    while len(gains) <= max(before for before, _, _ in shapes):
         gains.append(added(gains[-1], chances, gain))
-    rests = {(0, 0): {0: 1.0}}
-    for ones in range(max(k for _, k, _ in shapes) + 1):
+    ahead = {}
+    for before, bit in {shape[:2] for shape in shapes}:
+        there = falling if before else range(8)
+        low, sums = added(gains[before], [chances[n] for n in there], [bit * gain[n] for n in there])
+        ahead[before, bit] = sums[-low:]
+    return ahead
+
+
+def kept_after(pairs, chances, written, count):
+    """Of each pair (ones, zeros) of another word after t: entry k is the chance that its sum falls by at most k over them."""
+    rests = {(0, 0): (0, [1.0])}
+    for ones in range(max(k for k, _ in pairs) + 1):
         if ones:
-            rests[ones, 0] = added(rests[ones - 1, 0], chances, other)
-        for zeros in range(1, max((z for _, k, z in shapes if k == ones), default=0) + 1):
+            rests[ones, 0] = added(rests[ones - 1, 0], chances, written[::-1])
+        for zeros in range(1, max((z for k, z in pairs if k == ones), default=0) + 1):
             rests[ones, zeros] = added(rests[ones, zeros - 1], chances, written)
-    tails = {shape: tail_table(sums) for shape, sums in rests.items()}
-    total = []
-    for (before, after, zeros), times in shapes.items():
-        low, chance = tails[after, zeros]
-        reach = len(chance) - 1
-        total.append(times * math.fsum(p * chance[max(-d - low, 0)] for d, p in gains[before].items() if d >= 0 and -d - low <= reach))
-    return math.fsum(total)
+    return {pair: not_below(rests[pair], count) for pair in pairs}
+
+
+def misread_bound(shapes, rate, rise):
+    """At most this share of columns is misread, whatever the limit; the level's branch values are those of level 0 and `rise`. A word r comes out for the
+    written c only if r is ahead of c (demand 3). Let t be the first place past their shared beginning where c's sum is lowest: there c falls, or it is the
+    first such place, and r's sum at t and at every later place is not below c's at t. Of the later places the best is taken; added over all r and t."""
+    chances, written = readings(rate), [value + rise for value in VALUES]
+    ahead = ahead_at(shapes, chances, written)
+    parts = {(before, bit, pair) for before, bit, later in shapes for pair in later}
+    kept = kept_after({pair for _, _, pair in parts}, chances, written, max(len(sums) for sums in ahead.values()))
+    chance = {(before, bit, pair): sum(map(operator.mul, ahead[before, bit], kept[pair])) for before, bit, pair in parts}
+    return math.fsum(times * min(chance[before, bit, pair] for pair in later) for (before, bit, later), times in shapes.items())
+
+
+def measured_rates(by_case, rate):
+    """Of each limit and level the shares of misread and unread columns."""
+    return {limit: [tuple(by_case[rate, limit, i][key] / by_case[rate, limit, i]["columns"] for key in ("misread", "unread")) for i in range(4)]
+            for limit in LIMITS}
+
+
+def upper_rates(by_case, rate, words):
+    """Their upper limits; words: of a level the bound on misread columns by words."""
+    doubt = DOUBT / (2 * len(by_case))
+    limits = {}
+    for limit in LIMITS:
+        rows = [by_case[rate, limit, i] for i in range(4)]
+        limits[limit] = [(min(upper_limit(r["misread"], r["columns"], doubt), words.get(i, 1.0)), upper_limit(r["unread"], r["columns"], doubt))
+                         for i, r in enumerate(rows)]
+    return limits
+
+
+def cases(rows):
+    return {(int(r["rate"]), int(r["limit"]), int(r["level"])): r for r in rows}
+
+
+def write_bounds(by_case, name, rise):
+    shapes = {level: rivals(level) for level in range(WORDS_FROM, 4)}
+    with open(os.path.join(DOCS, name), "w") as out:
+        out.write("rate,limit,then,measured,level0,level1,level2,level3,upper,upper0,upper1,upper2,upper3,upper_wrong,misread2_by_words,misread3_by_words\n")
+        for rate in sorted({case[0] for case in by_case}):
+            words = {level: misread_bound(shapes[level], rate / 1e6, rise * level) for level in shapes}
+            seen, most = measured_rates(by_case, rate), upper_rates(by_case, rate, words)
+            for way in WAYS:
+                levels, (upper, wrong) = way_bound(seen, way)[0], way_bound(most, way)
+                numbers = [math.fsum(levels), *levels, math.fsum(upper), *upper, wrong, *words.values()]
+                out.write(",".join(str(x) for x in (rate, *way)) + "," + ",".join(f"{x:.4g}" for x in numbers) + "\n")
 
 
 def main():
-    rows = table("aging-columns.csv")
-    doubt = DOUBT / (2 * len(rows))
-    shapes = {level: rivals(level) for level in range(WORDS_FROM, 4)}
-    by_case = {(int(r["rate"]), int(r["limit"]), int(r["level"])): r for r in rows}
-    cases = sorted({case[:2] for case in by_case})
-    words = {(rate, level): misread_bound(shapes[level], rate / 1e6) for rate in sorted({c[0] for c in cases}) for level in shapes}
-    with open(os.path.join(DOCS, "aging-bound.csv"), "w") as out:
-        out.write("rate,limit,measured,level0,level1,level2,level3,upper,misread2_by_words,misread3_by_words,unread3_upper\n")
-        for rate, limit in cases:
-            measured, upper = [], []
-            for level in range(4):
-                r = by_case[rate, limit, level]
-                measured.append((r["misread"] / r["columns"], r["unread"] / r["columns"]))
-                misread, unread = (upper_limit(r[key], r["columns"], doubt) for key in ("misread", "unread"))
-                upper.append((min(misread, words.get((rate, level), 1.0)), unread))
-            levels = [level_bound(i, *measured[i]) for i in range(4)]
-            numbers = [math.fsum(levels), *levels, page_bound(upper), words[rate, 2], words[rate, 3], upper[3][1]]
-            out.write(f"{rate},{limit}," + ",".join(f"{x:.4g}" for x in numbers) + "\n")
+    for source, (name, rise) in TABLES.items():
+        write_bounds(cases(table(source)), name, rise)
 
 
 if __name__ == "__main__":

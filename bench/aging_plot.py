@@ -1,10 +1,11 @@
 #!/usr/bin/env python3
-"""docs/aging.svg from the tables docs/aging-pages.csv, docs/aging-columns.csv and docs/aging-bound.csv."""
+"""docs/aging.svg from the tables docs/aging-pages.csv, docs/aging-columns.csv and docs/aging-bound.csv, and the last two before document 02's point 3."""
 import math
 import os
 from aging_bound import DOCS, table
 
-LIMITS = {200: ("#c0392b", "7 4"), 500: ("#1f4e9c", ""), 2000: ("#2a7d46", "2 3")}
+LIMITS = {(200, 0): ("#c0392b", "7 4"), (500, 0): ("#1f4e9c", ""), (2000, 0): ("#2a7d46", "2 3")}
+AGAIN = {(200, 2000): ("#d98200", "9 2"), (500, 2000): ("#8e44ad", "4 2")}
 LEVELS = {0: ("#222222", ""), 1: ("#b8541a", "8 3"), 2: ("#7a3e9d", "5 3"), 3: ("#0b7a75", "2 3")}
 WIDTH, HEIGHT, ACROSS = 400, 250, 490  # of a panel's field, and from panel to panel
 DOWN = 350
@@ -57,13 +58,13 @@ class Panel:
         x = self.left
         for style, text in entries:
             y = self.top - 13
-            self.parts.append(f'<path d="M{x} {y}h28" stroke="{style[0]}" stroke-width="2" stroke-dasharray="{style[1] or "none"}"/>'
-                              f'<text x="{x + 33}" y="{y + 4}">{text}</text>')
-            x += 48 + 6.4 * len(text)
+            self.parts.append(f'<path d="M{x} {y}h22" stroke="{style[0]}" stroke-width="2" stroke-dasharray="{style[1] or "none"}"/>'
+                              f'<text x="{x + 26}" y="{y + 4}">{text}</text>')
+            x += 36 + 6.3 * len(text)
 
     def mark(self, y, text):
         self.parts.append(f'<path d="M{self.left} {self.up(y):.1f}h{WIDTH}" stroke="#000" stroke-width="1.2"/>'
-                          f'<text x="{self.left + 6}" y="{self.up(y) - 5:.1f}">{text}</text>')
+                          f'<text x="{self.left + 8}" y="{self.top + 18}">{text}</text>')
 
 
 def powers(low, high, step):
@@ -71,53 +72,66 @@ def powers(low, high, step):
     return [(10.0 ** k, "1" if k == 0 else "10" + str(k).translate(names)) for k in range(low, high + 1, step)]
 
 
+def of_way(rows, way):
+    return [r for r in rows if (r["limit"], r["then"]) == way]
+
+
+def percents(rows, value):
+    """The points of a line: the rate in percent and a value of the row."""
+    return [(r["rate"] / 1e4, value(r)) for r in rows]
+
+
 def page_panels(pages):
     share = Panel(0, "Pages that come back", "share of pages, percent", (0.1, 6), (0, 105), False)
     share.grid((0.1, 0.2, 0.5, 1, 2, 3, 4, 6), [(y, y) for y in range(0, 101, 20)])
-    steps = Panel(1, "Steps of an answered page", "average steps, thousands", (0.1, 6), (0, 50), False)
-    steps.grid((0.1, 0.2, 0.5, 1, 2, 3, 4, 6), [(y, y) for y in range(0, 51, 10)])
-    erased = Panel(2, "Erased columns of an answered page, all levels", "average number of columns", (0.1, 6), (1e-3, 100), True)
-    erased.grid((0.1, 0.2, 0.5, 1, 2, 3, 4, 6), powers(-3, 2, 1))
-    for limit, style in LIMITS.items():
-        rows = [r for r in pages if r["limit"] == limit]
-        share.line([(r["rate"] / 1e4, 100 * r["back"] / r["pages"]) for r in rows], style)
-        answered = [(r, r["pages"] - r["refused"]) for r in rows if r["pages"] - r["refused"] >= 20]
-        steps.line([(r["rate"] / 1e4, r["steps"] / n / 1e3) for r, n in answered], style)
-        erased.line([(r["rate"] / 1e4, sum(r[f"erased{i}"] for i in range(4)) / n) for r, n in answered], style)
+    steps = Panel(1, "Steps of an answered page", "average steps, thousands", (0.001, 6), (0, 70), False)
+    steps.grid((0.001, 0.01, 0.1, 0.5, 1, 2, 4), [(y, y) for y in range(0, 71, 10)])
+    erased = Panel(2, "Erased columns of an answered page, all levels", "average number of columns", (0.001, 6), (1e-4, 100), True)
+    erased.grid((0.001, 0.01, 0.1, 0.5, 1, 2, 4), powers(-4, 2, 1))
+    for way, style in (LIMITS | AGAIN).items():
+        share.line(percents(of_way(pages, way), lambda r: 100 * r["back"] / r["pages"]), style)
+    for way, style in LIMITS.items():
+        answered = [r for r in of_way(pages, way) if r["pages"] - r["refused"] >= 20]
+        steps.line(percents(answered, lambda r: r["steps"] / (r["pages"] - r["refused"]) / 1e3), style)
+        erased.line(percents(answered, lambda r: sum(r[f"erased{i}"] for i in range(4)) / (r["pages"] - r["refused"])), style)
     return [share, steps, erased]
 
 
-def bound_panel(bounds):
-    panel = Panel(3, "Chance of a bad page (001, equations 10 to 12)", "bound; rings: from upper limits", (0.1, 4), (1e-32, 1), True)
-    panel.grid((0.1, 0.2, 0.5, 1, 2, 4), powers(-32, 0, 4))
-    panel.mark(1e-16, "the promise, 10⁻¹⁶")
-    for limit, style in LIMITS.items():
-        rows = [r for r in bounds if r["limit"] == limit]
-        panel.rings([(r["rate"] / 1e4, r["upper"]) for r in rows], style)
-        panel.line([(r["rate"] / 1e4, r["measured"]) for r in rows], style)
+def bound_panel(bounds, before):
+    panel = Panel(3, "Chance of a bad page (001, equations 10 to 12)", "bound; rings: upper limits; thin: before", (0.0005, 4), (1e-32, 1), True)
+    panel.grid((0.001, 0.01, 0.1, 0.5, 1, 2, 4), powers(-32, 0, 4))
+    panel.mark(1e-16, "black: the promise, 10⁻¹⁶")
+    for way, style in LIMITS.items():
+        panel.line(percents(of_way(before, way), lambda r: r["measured"]), style, 0.9, False)
+        panel.rings(percents(of_way(bounds, way), lambda r: r["upper"]), style)
+        panel.line(percents(of_way(bounds, way), lambda r: r["measured"]), style)
+    for way, style in AGAIN.items():
+        panel.rings(percents(of_way(bounds, way), lambda r: r["upper"]), style)
     return panel
 
 
-def column_panels(columns, bounds):
-    unread = Panel(4, "Unread columns by level, limit 500", "share of columns", (0.1, 4), (1e-7, 1), True)
-    misread = Panel(5, "Misread columns by level, limit 500", "share of columns; thin: bound by words", (0.1, 4), (1e-16, 1), True)
-    unread.grid((0.1, 0.2, 0.5, 1, 2, 4), powers(-7, 0, 1))
-    misread.grid((0.1, 0.2, 0.5, 1, 2, 4), powers(-16, 0, 2))
+def column_panels(columns, bounds, before):
+    unread = Panel(4, "Unread columns by level, limit 500", "share of columns; thin: before", (0.0005, 4), (1e-7, 1), True)
+    misread = Panel(5, "Misread columns by level, limit 500", "share of columns; thin: bound by words", (0.0005, 4), (1e-16, 1), True)
+    unread.grid((0.001, 0.01, 0.1, 0.5, 1, 2, 4), powers(-7, 0, 1))
+    misread.grid((0.001, 0.01, 0.1, 0.5, 1, 2, 4), powers(-16, 0, 2))
     for level, style in LEVELS.items():
-        rows = [r for r in columns if r["limit"] == 500 and r["level"] == level]
+        now, old = ([r for r in rows if r["limit"] == 500 and r["level"] == level] for rows in (columns, before))
+        unread.line(percents([r for r in old if r["unread"]], lambda r: r["unread"] / r["columns"]), style, 0.9, False)
         for panel, key in ((unread, "unread"), (misread, "misread")):
-            panel.line([(r["rate"] / 1e4, r[key] / r["columns"]) for r in rows if r[key]], style)
+            panel.line(percents([r for r in now if r[key]], lambda r: r[key] / r["columns"]), style)
     for level in (2, 3):
-        misread.line([(r["rate"] / 1e4, r[f"misread{level}_by_words"]) for r in bounds if r["limit"] == 500], (LEVELS[level][0], ""), 0.9, False)
+        misread.line(percents(of_way(bounds, (500, 0)), lambda r: r[f"misread{level}_by_words"]), (LEVELS[level][0], ""), 0.9, False)
     return [unread, misread]
 
 
 def main():
     pages, columns, bounds = table("aging-pages.csv"), table("aging-columns.csv"), table("aging-bound.csv")
-    by_limit = page_panels(pages) + [bound_panel(bounds)]
-    by_level = column_panels(columns, bounds)
-    for panel in by_limit:
-        panel.legend([(style, f"limit {limit:,}") for limit, style in LIMITS.items()])
+    by_limit = page_panels(pages) + [bound_panel(bounds, table("aging-bound-before.csv"))]
+    by_level = column_panels(columns, bounds, table("aging-columns-before.csv"))
+    for place, panel in enumerate(by_limit):
+        again = [(style, f"{limit:,} then {then:,}") for (limit, then), style in AGAIN.items()] if place in (0, 3) else []
+        panel.legend([(style, f"{limit:,}") for (limit, _), style in LIMITS.items()] + again)
     for panel in by_level:
         panel.legend([(style, f"level {level}") for level, style in LEVELS.items()])
     style = ("text{font:12px sans-serif;fill:#222}.title{font-size:14px;font-weight:bold}.middle{text-anchor:middle}.end{text-anchor:end}"

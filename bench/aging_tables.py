@@ -1,14 +1,24 @@
 #!/usr/bin/env python3
-"""Writes the tables of docs/AGING.md, each between its two marks, from docs/aging-pages.csv, docs/aging-columns.csv, docs/aging-spreads.csv and
-docs/aging-bound.csv."""
+"""Writes the tables of docs/AGING.md, each between its two marks, from docs/aging-pages.csv, aging-columns.csv, aging-spreads.csv, aging-ties.csv and
+aging-bound.csv, and from aging-columns-before.csv and aging-bound-before.csv, which keep the study before document 02's point 3."""
 import itertools
 import math
 import os
 import re
-from aging_bound import DOCS, page_bound, table
+from aging_bound import DOCS, LIMITS, WAYS, cases, inverse_tail, level_bound, table, upper_rates, way_bound
 
-LIMITS = (200, 500, 2000)
 PROMISE = 1e-16
+CODE_RATE = 150 * 8 / (63 * 30)
+SINGLE = WAYS[: len(LIMITS)]  # the ways with one decode
+
+
+def way_of(row):
+    return int(row["limit"]), int(row["then"])
+
+
+def name(way):
+    limit, then = way
+    return f"{limit:,}, then {then:,}" if then else f"{limit:,}"
 
 
 def percent(rate):
@@ -28,10 +38,10 @@ def lines(head, rows):
 
 
 def by_rate(rows):
-    """Of each raw bit error rate: its rows by limit."""
+    """Of each raw bit error rate: its rows by way."""
     grouped = {}
     for r in rows:
-        grouped.setdefault(int(r["rate"]), {})[int(r["limit"])] = r
+        grouped.setdefault(int(r["rate"]), {})[way_of(r)] = r
     return grouped
 
 
@@ -42,16 +52,16 @@ def answered(r):
 def page_table(pages):
     rows = []
     for rate, at in by_rate(pages).items():
-        back = [f"{int(at[l]['back']):,}" for l in LIMITS]
-        steps = [f"{at[l]['steps'] / answered(at[l]):,.0f}" if answered(at[l]) else "–" for l in LIMITS]
+        back = [f"{int(at[way]['back']):,}" for way in WAYS]
+        steps = [f"{at[way]['steps'] / answered(at[way]):,.0f}" if answered(at[way]) else "–" for way in SINGLE]
         rows.append([percent(rate), *back, *steps])
-    return lines(["raw errors", *(f"back, {l:,}" for l in LIMITS), *(f"steps, {l:,}" for l in LIMITS)], rows)
+    return lines(["raw errors", *(f"back, {name(way)}" for way in WAYS), *(f"steps, {name(way)}" for way in SINGLE)], rows)
 
 
 def erased_table(pages):
     cell = lambda r: " / ".join(f"{r[f'erased{i}'] / answered(r):.3g}" for i in range(4)) if answered(r) else "–"
-    rows = [[percent(rate), *(cell(at[l]) for l in LIMITS)] for rate, at in by_rate(pages).items()]
-    return lines(["raw errors", *(f"limit {l:,}" for l in LIMITS)], rows)
+    rows = [[percent(rate), *(cell(at[way]) for way in SINGLE)] for rate, at in by_rate(pages).items()]
+    return lines(["raw errors", *(f"limit {name(way)}" for way in SINGLE)], rows)
 
 
 def column_table(columns, limit):
@@ -64,16 +74,14 @@ def column_table(columns, limit):
 
 
 def bound_table(bounds):
-    rows = []
-    for rate, at in by_rate(bounds).items():
-        pairs = [power(at[l][key]) for l in LIMITS for key in ("measured", "upper")]
-        rows.append([percent(rate), *pairs])
-    return lines(["raw errors", *(f"{l:,}, {key}" for l in LIMITS for key in ("measured", "upper"))], rows)
+    shown = [(way, key) for way in WAYS for key in ("measured", "upper") if key == "upper" or way in SINGLE]
+    rows = [[percent(rate), *(power(at[way][key]) for way, key in shown)] for rate, at in by_rate(bounds).items()]
+    return lines(["raw errors", *(f"{name(way)}, {key}" for way, key in shown)], rows)
 
 
-def level_table(bounds, limit):
-    rows = [[percent(rate), *(power(at[limit][f"level{i}"]) for i in range(4)), power(at[limit]["misread2_by_words"]), power(at[limit]["misread3_by_words"])]
-            for rate, at in by_rate(bounds).items() if rate <= 20000]
+def level_table(bounds, way):
+    keys = [*(f"level{i}" for i in range(4)), "misread2_by_words", "misread3_by_words"]
+    rows = [[percent(rate), *(power(at[way][key]) for key in keys)] for rate, at in by_rate(bounds).items() if rate <= 20000]
     return lines(["raw errors", *(f"level {i}" for i in range(4)), "misread 2 by words, at most", "misread 3 by words, at most"], rows)
 
 
@@ -87,7 +95,7 @@ def crossing(rows):
     """The raw bit error rate where the measured bound meets the promise, on a straight line of logarithms between two rates read."""
     a, b = bracket(rows)
     x, y, low, high = (math.log(v) for v in (a["rate"], b["rate"], a["measured"], b["measured"]))
-    return percent(round(math.exp(x + (y - x) * (math.log(PROMISE) - low) / (high - low)), -1))
+    return f"{math.exp(x + (y - x) * (math.log(PROMISE) - low) / (high - low)) / 1e4:.3g} %"
 
 
 def between(rows):
@@ -105,72 +113,153 @@ def kept(rows, key):
     return held[-1]
 
 
-def promise_table(bounds, columns):
-    rows = []
-    for limit in LIMITS:
-        ours = [r for r in bounds if int(r["limit"]) == limit]
-        sure = kept(ours, "upper")
-        level = max(range(4), key=lambda i: sure[f"level{i}"])
-        read = {int(r["level"]): r for r in columns if r["rate"] == sure["rate"] and int(r["limit"]) == limit}
-        seen = f"{int(read[level]['misread']):,} misread, {int(read[level]['unread']):,} unread of {read[level]['columns'] / 1e6:g} M"
-        rows.append([f"{limit:,}", percent(sure["rate"]), power(sure["upper"]), crossing(ours), f"level {level}: {seen}"])
-    return lines(["limit", "promise holds up to (upper limits)", "bound there", "measured rates alone would say", "what decides there"], rows)
+def of_way(bounds, way):
+    return [r for r in bounds if way_of(r) == way]
 
 
-def figure(bounds):
-    held = {limit: percent(kept([r for r in bounds if int(r["limit"]) == limit], "upper")["rate"]) for limit in LIMITS}
-    return (f"**With limit 500, the station's, the promise holds up to a raw bit error rate of {held[500]}; with 200 up to {held[200]}; with 2,000 up to "
-            f"{held[2000]}, on the channel below. Above that we do not promise it.**")
+def ends(bounds):
+    """Of each way the line of the largest rate up to which the promise holds."""
+    return {way: kept(of_way(bounds, way), "upper") for way in WAYS}
 
 
-def spread_table(spreads):
-    rows = []
-    for spread in sorted({r["spread"] for r in spreads}):
+def most_at(row, by_case):
+    """The upper limits behind a line of the bound."""
+    return upper_rates(by_case, int(row["rate"]), {i: row[f"misread{i}_by_words"] for i in (2, 3)})
+
+
+def decisive(row):
+    return max(range(4), key=lambda i: row[f"upper{i}"])
+
+
+def cause(row, by_case):
+    """Which level makes most of the bound, and by what."""
+    level = decisive(row)
+    if row["upper_wrong"] > row["upper"] / 2:
+        return f"level {level}, wrong data by the first decode"
+    limit, then = way_of(row)
+    unread = level_bound(level, 0.0, most_at(row, by_case)[then or limit][level][1])
+    return f"level {level}, {'unread' if unread > row[f'upper{level}'] / 2 else 'misread'} columns"
+
+
+def seen(row, by_case):
+    """What was counted at the level that decides, with the limit that decides."""
+    limit, then = way_of(row)
+    level, limit = decisive(row), limit if row["upper_wrong"] > row["upper"] / 2 else then or limit
+    r = by_case[int(row["rate"]), limit, level]
+    return f"level {level}, limit {limit:,}: {int(r['misread']):,} misread, {int(r['unread']):,} unread of {r['columns'] / 1e6:g} M"
+
+
+def cost_table(before, by_case_before, bounds, by_case):
+    old, new = ends(before), ends(bounds)
+    rows = [[name(way), percent(old[way]["rate"]), cause(old[way], by_case_before), percent(new[way]["rate"]), cause(new[way], by_case)] for way in WAYS]
+    return lines(["limit", "before: holds up to", "what decided", "now: holds up to", "what decides"], rows)
+
+
+def promise_table(bounds, by_case):
+    rows = [[name(way), percent(end["rate"]), power(end["upper"]), crossing(of_way(bounds, way)), seen(end, by_case)] for way, end in ends(bounds).items()]
+    return lines(["limit", "promise holds up to (upper limits)", "bound there", "measured rates alone would say", "counted where it is decided"], rows)
+
+
+def figure(before, bounds):
+    old, new = ({way: percent(end["rate"]) for way, end in ends(b).items()} for b in (before, bounds))
+    others = "; ".join(f"with {name(way)}{',' if way[1] else ''} up to {new[way]} (before {old[way]})" for way in WAYS if way != (500, 0))
+    return (f"**With limit 500, the station's, the promise holds up to a raw bit error rate of {new[500, 0]} (before {old[500, 0]}); {others}. This is on the "
+            f"channel below. Above that we do not promise it.**")
+
+
+def room(most, way):
+    """How many times the unread rates of levels 1 to 3 may be what they are with the promise still kept."""
+    low, high = 1.0, 100.0
+    for _ in range(20):
+        middle = math.sqrt(low * high)
+        scaled = {limit: [(m, u * middle if i else u) for i, (m, u) in enumerate(rates)] for limit, rates in most.items()}
+        low, high = (middle, high) if math.fsum(way_bound(scaled, way)[0]) < PROMISE else (low, middle)
+    return low
+
+
+def room_table(bounds, by_case):
+    rows = [[name(way), percent(end["rate"]), f"{math.floor(100 * (room(most_at(end, by_case), way) - 1))} %"] for way, end in ends(bounds).items()]
+    return lines(["limit", "at", "unread more often by at most"], rows)
+
+
+def tie_table(ties):
+    """Of each rate and level: unread or misread columns of the last word, and of any word at most."""
+    cells = {}
+    for r in ties:
+        cells.setdefault((r["rate"], int(r["level"])), []).append(f"{int(r['last_word']):,} / {int(r['any_word']):,}")
+    rows = [[percent(rate), str(level), *row] for (rate, level), row in cells.items()]
+    return lines(["raw errors", "level", *(f"limit {limit:,}" for limit in LIMITS)], rows)
+
+
+def decibels(rate):
+    """E_b/N_0 of a raw bit error rate r = Q(sqrt(2 R E_b/N_0))."""
+    return f"{10 * math.log10(inverse_tail(rate / 1e6) ** 2 / (2 * CODE_RATE)):.1f} dB"
+
+
+def paper_table(before, bounds):
+    old, new = ends(before), ends(bounds)
+    rows = [[name(way), decibels(old[way]["rate"]), decibels(new[way]["rate"])] for way in WAYS]
+    return lines(["limit", "E_b/N_0 at the end before", "E_b/N_0 at the end now"], rows)
+
+
+def spread_table(rows):
+    """Of each spread and limit the two rates read between which the measured bound passes the promise."""
+    found = []
+    for spread in sorted({r["spread"] for r in rows}):
         cells = []
         for limit in LIMITS:
             ours = {}
-            for r in spreads:
+            for r in rows:
                 if r["spread"] == spread and int(r["limit"]) == limit:
                     ours.setdefault(r["rate"], []).append((r["misread"] / r["columns"], r["unread"] / r["columns"]))
-            cells.append(between([{"rate": rate, "measured": page_bound(levels)} for rate, levels in ours.items()]))
-        rows.append([f"{spread:g}" if spread else "0 (hard readings)", *cells])
-    return lines(["thresholds spread by", *(f"limit {l:,}" for l in LIMITS)], rows)
+            cells.append(between([{"rate": rate, "measured": math.fsum(way_bound({limit: levels}, (limit, 0))[0])} for rate, levels in ours.items()]))
+        found.append([f"{spread:g}" if spread else "0 (hard readings)", *cells])
+    return lines(["thresholds spread by", *(f"limit {limit:,}" for limit in LIMITS)], found)
 
 
 def check_table(pages, bounds):
     paged, bounded = by_rate(pages), by_rate(bounds)
     rows = []
     for rate in sorted(set(paged) & set(bounded)):
-        if rate < 20000:
+        if rate < 4000:
             continue
-        seen = [paged[rate][l]["pages"] - paged[rate][l]["back"] for l in LIMITS]
-        expected = [paged[rate][l]["pages"] * bounded[rate][l]["measured"] for l in LIMITS]
-        rows.append([percent(rate), *(f"{a:,.0f} / {b:,.0f}" if b >= 10 else f"{a:,.0f} / {power(b)}" for a, b in zip(seen, expected))])
-    return lines(["raw errors", *(f"limit {l:,}" for l in LIMITS)], rows)
+        bad = [paged[rate][way]["pages"] - paged[rate][way]["back"] for way in WAYS]
+        expected = [paged[rate][way]["pages"] * bounded[rate][way]["measured"] for way in WAYS]
+        rows.append([percent(rate), *(f"{a:,.0f} / {b:,.0f}" if b >= 10 else f"{a:,.0f} / {power(b)}" for a, b in zip(bad, expected))])
+    return lines(["raw errors", *(name(way) for way in WAYS)], rows)
+
+
+def deviation(row):
+    """How many standard deviations the share of wrong bits lies off the rate named."""
+    bits, rate = 30 * row["columns"], row["rate"] / 1e6
+    return abs(row["wrong_bits"] - bits * rate) / math.sqrt(bits * rate * (1 - rate))
 
 
 def totals(pages, columns):
     read = [r for r in columns if int(r["limit"]) == 2000]
-    off = max(abs(r["wrong_bits"] / r["columns"] / 30 / (r["rate"] / 1e6) - 1) for r in read)
+    off = max(deviation(r) for r in read)
     count = {key: f"{int(sum(r[key] for r in pages)):,}" for key in ("pages", "back", "refused", "wrong")}
-    return (f"{count['pages']} page decodes ({int(pages[0]['pages']):,} pages a rate, each with the three limits), of which {count['back']} came back, "
-            f"{count['refused']} were refused and {count['wrong']} gave wrong data as sound. {sum(r['columns'] for r in read) / 1e6:g} million columns, "
-            f"their share of wrong bits everywhere within {math.ceil(1000 * off) / 10:.1f} % of the rate named.")
+    where = "; ".join(f"{int(r['wrong'])} at {percent(r['rate'])} with {name(way_of(r))}" for r in pages if r["wrong"]) or "none"
+    return (f"{count['pages']} pages read ({int(pages[0]['pages']):,} pages a rate, each in the five ways), of which {count['back']} came back, "
+            f"{count['refused']} were refused and {count['wrong']} gave wrong data as sound ({where}). {sum(r['columns'] for r in read) / 1e6:g} million "
+            f"columns, the number of their wrong bits at every rate and level within {math.ceil(10 * off) / 10:.1f} standard deviations of what the rate says.")
 
 
 def main():
-    pages, columns, spreads, bounds = (table(f"aging-{name}.csv") for name in ("pages", "columns", "spreads", "bound"))
-    texts = {"promise": promise_table(bounds, columns), "figure": figure(bounds), "totals": totals(pages, columns), "pages": page_table(pages),
-             "erased": erased_table(pages), "columns": column_table(columns, 500), "bound": bound_table(bounds), "levels": level_table(bounds, 500),
-             "check": check_table(pages, bounds), "spreads": spread_table(columns + spreads)}
-    name = os.path.join(DOCS, "AGING.md")
-    with open(name) as old:
+    pages, columns, spreads, ties, bounds = (table(f"aging-{kind}.csv") for kind in ("pages", "columns", "spreads", "ties", "bound"))
+    before, by_case_before, by_case = table("aging-bound-before.csv"), cases(table("aging-columns-before.csv")), cases(columns)
+    texts = {"cost": cost_table(before, by_case_before, bounds, by_case), "promise": promise_table(bounds, by_case), "figure": figure(before, bounds),
+             "totals": totals(pages, columns), "pages": page_table(pages), "erased": erased_table(pages), "columns": column_table(columns, 500),
+             "bound": bound_table(bounds), "levels": level_table(bounds, (500, 0)), "check": check_table(pages, bounds), "ties": tie_table(ties),
+             "room": room_table(bounds, by_case), "spreads": spread_table(columns + spreads), "paper": paper_table(before, bounds)}
+    page = os.path.join(DOCS, "AGING.md")
+    with open(page) as old:
         text = old.read()
     for key, value in texts.items():
         text, found = re.subn(rf"(<!-- {key} -->\n).*?(\n<!-- end {key} -->)", lambda m: m[1] + value + m[2], text, flags=re.S)
         if found != 1:
             raise ValueError(f"docs/AGING.md has no place for {key}")
-    with open(name, "w") as new:
+    with open(page, "w") as new:
         new.write(text)
 
 
