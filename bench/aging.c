@@ -122,7 +122,7 @@ static int tally(found most, uint32_t word, const uint8_t *soft, int level, uint
 }
 
 /* The word of g's code whose information bits, those before the remainder, are all one. Of two paths of one length and sum the one with 0 where they first
-   differ goes first, so this word loses every tie with another word: no written word is misread more often. */
+   differ goes first, so this word loses every tie with another word: no word has another ahead of it more often. */
 static uint32_t last_word(uint32_t g) {
     uint32_t information = (1u << BITS) - (1u << degree(g));
     return information | remainder_of(information, g);
