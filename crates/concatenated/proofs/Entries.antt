@@ -1,6 +1,6 @@
 -- The entries of what a level makes, one by one. Assumes nothing.
 use mathlib.Core.Bool.{Bool, false}
-use mathlib.Core.List.{List, [], _∷_, map}
+use mathlib.Core.List.{List, [], _∷_}
 use mathlib.Core.Path.{_≡_, refl, ap, _∙_}
 use Prim.Native.Nat.{ℕ, zero, suc, _-_, _<_}
 use native.Mathlib.Nat.{not-suc-le-zero, le-of-suc-le-suc, suc-inj}
@@ -12,11 +12,6 @@ use Rattle.packing.specs.Packing.{digit}
 use Rattle.concatenated.specs.Soft.{takenOffBy}
 use Rattle.concatenated.specs.SoftPage.{columnOff}
 use Rattle.concatenated.specs.Decode.{isChanged, changed, rowOff}
-
-pub map-at : {A B : Type 0} (f : A → B) (xs : List A) (j : ℕ) (d : A) (e : B) → j < length xs → getD (map f xs) j e ≡ f (getD xs j d)
-map-at f [] j d e h = absurd (not-suc-le-zero h)
-map-at f (x ∷ xs) zero d e h = refl
-map-at f (x ∷ xs) (suc j) d e h = map-at f xs j d e (le-of-suc-le-suc h)
 
 -- the soft values of a column with a word taken off
 pub off-at : (w : ℕ) (c : List ℕ) (p : ℕ) → p < length c → getD (columnOff w c) p 0 ≡ takenOffBy (digit 2 (length c - suc p) w) (getD c p 0)

@@ -17,7 +17,7 @@ use Rattle.concatenated.proofs.Digits.{digits-length}
 use Rattle.concatenated.proofs.Encoding.{columns-of-length}
 use Rattle.concatenated.proofs.Short.{column-in-bytes}
 use Rattle.concatenated.proofs.Filling.{Front}
-use Rattle.concatenated.proofs.Entries.{map-at}
+use Rattle.column.proofs.Tabulated.{map-at}
 use Rattle.concatenated.proofs.Groups.{flat-at, four-more}
 
 -- the symbols of column j, of four rows

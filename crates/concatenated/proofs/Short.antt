@@ -3,14 +3,14 @@ use mathlib.Core.List.{List, [], _∷_}
 use mathlib.Core.Path.{_≡_, refl, ap₂, _∙_}
 use Prim.Native.Nat.{ℕ, zero, suc, _*_}
 use native.Mathlib.Omega.{arith}
-use lib.IntN.{pos}
+use lib.IntN.{pos, _+ℤ_}
 use lib.ListN.{length, getD}
 use lib.Signed.{ltZ}
 use Rattle.column.specs.Shape.{short, generator}
 use Rattle.column.proofs.Short as Column
+use Rattle.column.proofs.Tabulated.{map-at}
 use Rattle.trellis.specs.Values.{values, levelValues}
 use Rattle.trellis.specs.Demand.{Search as Kind, whole, supercode}
-use Rattle.trellis.proofs.Values.{raised-at}
 use Rattle.trellis.proofs.Short as Columns
 use Rattle.packing.specs.Packing.{columnBytes}
 use Rattle.concatenated.specs.Lists.{All, total}
@@ -58,7 +58,7 @@ agreeing-is-above (suc (suc (suc (suc d)))) h = absurd (omega arith)
 level-values-agree-above : (i : ℕ) → AgreeingIsAbove (levelValues i)
 unfolding levelValues
 level-values-agree-above i d h =
-    ap₂ ltZ (raised-at (2 * i) (values .disagree) d h) (raised-at (2 * i) (values .agree) d h)
+    ap₂ ltZ (map-at (λ v. v +ℤ pos (2 * i)) (values .disagree) d (pos 0) (pos 0) h) (map-at (λ v. v +ℤ pos (2 * i)) (values .agree) d (pos 0) (pos 0) h)
     ∙ same-after (pos (2 * i)) (getD (values .disagree) d (pos 0)) (getD (values .agree) d (pos 0))
     ∙ agreeing-is-above d h
 

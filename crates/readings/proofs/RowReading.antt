@@ -27,7 +27,7 @@ use Rattle.readings.specs.Steps.{asReading, WordInRange, RowRead}
 use Rattle.concatenated.proofs.Lists.{all-at, map-append}
 use Rattle.concatenated.proofs.Searches.{found-is-a-word, found-is-ahead-of-all}
 use Rattle.concatenated.proofs.Filling.{Front, front-none, front-more, front-all}
-use Rattle.concatenated.proofs.Entries.{map-at}
+use Rattle.column.proofs.Tabulated.{map-at}
 
 by-code : (limit : ℕ) (o : SearchResult ℕ) → asReading limit (codeOutcome o) ≡ readingOf limit o
 unfolding codeOutcome readingOf

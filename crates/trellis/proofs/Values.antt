@@ -1,14 +1,13 @@
 -- The branch values of a level: each is 01's, raised by 2·i. Assumes nothing.
 use mathlib.Core.Bool.{Bool, true, false, cond}
-use mathlib.Core.List.{List, [], _∷_, map}
 use mathlib.Core.Path.{_≡_, refl}
-use Prim.Native.Nat.{ℕ, zero, suc, _-_, _*_, _<_}
-use native.Mathlib.Nat.{not-suc-le-zero, le-of-suc-le-suc}
+use Prim.Native.Nat.{ℕ, _-_, _*_, _<_}
 use native.Mathlib.Omega.{arith}
 use lib.Dec.{eqb, ltb}
-use lib.IntN.{ℤ, pos, _+ℤ_}
-use lib.ListN.{length, getD}
+use lib.IntN.{pos, _+ℤ_}
+use lib.ListN.{getD}
 use borrow.Author.Tests.{ltb-true, ltb-false}
+use Rattle.column.proofs.Tabulated.{map-at}
 use Rattle.trellis.specs.Values.{values, reading, doubt, branch, raised, levelValues}
 
 pub doubt-lt : (q : ℕ) → doubt q < 4
@@ -19,12 +18,6 @@ doubt-lt q = go (ltb q 4) refl
     go true e = ltb-true q 4 e
     go false e = omega (arith, ltb-false q 4 e)
 
--- an entry of a list whose entries are raised
-pub raised-at : (k : ℕ) (xs : List ℤ) (d : ℕ) → d < length xs → getD (map (λ v. v +ℤ pos k) xs) d (pos 0) ≡ getD xs d (pos 0) +ℤ pos k
-raised-at k [] d h = absurd (not-suc-le-zero h)
-raised-at k (x ∷ xs) zero h = refl
-raised-at k (x ∷ xs) (suc d) h = raised-at k xs d (le-of-suc-le-suc h)
-
 -- 02, point 3, of the branch value itself: every bit and soft value
 pub branch-at-level : (i b q : ℕ) → branch (levelValues i) b q ≡ branch values b q +ℤ pos (2 * i)
 unfolding branch levelValues
@@ -33,8 +26,8 @@ branch-at-level i b q = go (eqb (reading q) b)
     go : (t : Bool)
         → cond t (getD (raised (2 * i) values .agree) (doubt q) (pos 0)) (getD (raised (2 * i) values .disagree) (doubt q) (pos 0))
         ≡ cond t (getD (values .agree) (doubt q) (pos 0)) (getD (values .disagree) (doubt q) (pos 0)) +ℤ pos (2 * i)
-    go true = raised-at (2 * i) (values .agree) (doubt q) (doubt-lt q)
-    go false = raised-at (2 * i) (values .disagree) (doubt q) (doubt-lt q)
+    go true = map-at (λ v. v +ℤ pos (2 * i)) (values .agree) (doubt q) (pos 0) (pos 0) (doubt-lt q)
+    go false = map-at (λ v. v +ℤ pos (2 * i)) (values .disagree) (doubt q) (pos 0) (pos 0) (doubt-lt q)
 
 -- at level 0 they are 01's
 pub level-0-has-the-values-of-01 : levelValues 0 ≡ values

@@ -7,7 +7,8 @@ use mathlib.Core.List.{map}
 use lib.ListN.{length, length-map, getD}
 use Rattle.concatenated.specs.Decode.{isChanged, changed}
 use Rattle.concatenated.specs.Flags.{flag, isOne}
-use Rattle.concatenated.proofs.Entries.{map-at, changed-length, changed-at}
+use Rattle.column.proofs.Tabulated.{map-at}
+use Rattle.concatenated.proofs.Entries.{changed-length, changed-at}
 use native.Mathlib.Omega.{arith}
 use borrow.Author.Needs.{needs}
 use Rattle.softpage.proofs.rows.changed_columns.Statement.{statement}

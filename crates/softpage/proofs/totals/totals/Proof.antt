@@ -6,7 +6,7 @@ use mathlib.Core.List.{List, [], map}
 use lib.ListN.{length, length-map}
 use Rattle.concatenated.specs.Lists.{total}
 use Rattle.concatenated.specs.Flags.{isOne}
-use Rattle.concatenated.proofs.Entries.{map-at}
+use Rattle.column.proofs.Tabulated.{map-at}
 use native.Mathlib.Omega.{arith}
 use borrow.Author.Needs.{needs}
 use Rattle.softpage.proofs.totals.totals.Statement.{statement}
