@@ -118,17 +118,25 @@ void page_baseline_encode(const uint8_t *data, uint8_t *page) {
     }
 }
 
+/* the number of ones, in pairs, fours and bytes; without -mpopcnt the builtin is a call */
+static inline uint8_t ones(uint64_t m) {
+    m -= m >> 1 & 0x5555555555555555u;
+    m = (m & 0x3333333333333333u) + (m >> 2 & 0x3333333333333333u);
+    return (uint8_t)(((m + (m >> 4)) & 0x0f0f0f0f0f0f0f0fu) * 0x0101010101010101u >> 56);
+}
+
 page_outcome page_baseline_decode(baseline_search *search, const uint8_t *soft, int limit, uint8_t *data) {
     page_outcome o = {0};
     uint8_t page[COLUMNS][BITS], symbols[200], *symbol = symbols;
     memcpy(page, soft, sizeof page);
     for (int i = 0; i < LEVELS; i++) {
         uint8_t row[COLUMNS], was[COLUMNS], marks[COLUMNS];
+        uint64_t changed = 0, erased = 0;
         for (int j = 0; j < COLUMNS; j++) {
             baseline_outcome c = search(page[j], &tables[i], limit);
             marks[j] = c.count == 0;
             o.steps += c.count ? c.count : (uint32_t)limit;
-            o.erased[i] += marks[j];
+            erased |= (uint64_t)marks[j] << j;
             for (int n = 3; n >= i; n--) {       /* re-imaging */
                 was[j] = c.word >> (6 * n + 6) & 63;
                 c.word ^= words[n][was[j]];
@@ -137,9 +145,13 @@ page_outcome page_baseline_decode(baseline_search *search, const uint8_t *soft, 
         memcpy(row, was, sizeof row);
         if (!decode_row(i, row, marks)) return (page_outcome){.number = 10, .place = (uint64_t)i};
         for (int j = 0; j < COLUMNS; j++) {
-            o.changed[i] += !marks[j] && row[j] != was[j];
+            changed |= (uint64_t)(!marks[j] && row[j] != was[j]) << j;
             if (i < 3 && row[j]) for (int k = 0; k < BITS; k++) page[j][k] ^= flips[i][row[j]][k];
         }
+        o.changed_marks[i] = changed;
+        o.erased_marks[i] = erased;
+        o.changed[i] = ones(changed);
+        o.erased[i] = ones(erased);
         memcpy(symbol, row, (size_t)(COLUMNS - roots[i]));
         symbol += COLUMNS - roots[i];
     }

@@ -1,6 +1,7 @@
 /* readpage in C: the same text for the same dump, by the C baselines and stdio. */
 #include "dump_baseline.h"
 #include "page_baseline.h"
+#include <inttypes.h>
 #include <stdio.h>
 
 enum { DUMP = BLOCKS * BLOCK, DATA = 150, LIMIT = 500 };
@@ -16,7 +17,8 @@ int main(void) {
     }
     if (refused) return printf("page refused %u place %u\n", (unsigned)(refused % 256), (unsigned)(refused / 256)) < 0;
     printf("page ok steps %u\n", (unsigned)page.steps);
-    for (int i = 0; i < 4; i++) printf("level %d changed %d erased %d\n", i, page.changed[i], page.erased[i]);
+    for (int i = 0; i < 4; i++)
+        printf("level %d changed %d %016" PRIx64 " erased %d %016" PRIx64 "\n", i, page.changed[i], page.changed_marks[i], page.erased[i], page.erased_marks[i]);
     printf("data ");
     for (int k = 0; k < DATA; k++) printf("%02x", data[k]);
     return printf("\n") < 0;

@@ -50,6 +50,13 @@ static int refused(const char *call, uint64_t result) {
     return 1;
 }
 
+/* How many columns, and which: column j stands at bit j of the mark. */
+static void print_columns(const char *what, unsigned total, uint64_t mark) {
+    printf(" %s %u%s", what, total, total ? ":" : "");
+    for (unsigned j = 0; j < STATION_COLUMNS; j++)
+        if (mark >> j & 1) printf(" %u", j);
+}
+
 int main(void) {
     uint8_t data[STATION_DATA_LEN], page[STATION_PAGE_LEN], soft[STATION_SOFT_LEN], back[STATION_DATA_LEN], report[STATION_REPORT_LEN];
     weigh(data);
@@ -57,8 +64,12 @@ int main(void) {
     printf("%d of %d bits read wrongly\n", read_worn(page, soft), STATION_SOFT_LEN);
     if (refused("decode", station_decode_page(soft, sizeof soft, back, sizeof back, report, sizeof report))) return 1;
     printf("steps %lu\n", (unsigned long)station_steps(report));
-    for (unsigned level = 0; level < STATION_LEVELS; level++)
-        printf("level %u changed %u erased %u\n", level, station_changed(report, level), station_erased(report, level));
+    for (unsigned level = 0; level < STATION_LEVELS; level++) {
+        printf("level %u", level);
+        print_columns("changed", station_changed(report, level), station_changed_mark(report, level));
+        print_columns("erased", station_erased(report, level), station_erased_mark(report, level));
+        printf("\n");
+    }
     for (int i = 0; i < RECORDS; i++) printf("%.*s\n", RECORD, (const char *)back + RECORD * i);
     int same = !memcmp(data, back, sizeof data);
     puts(same ? "the data are as written" : "the data differ");

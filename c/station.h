@@ -36,14 +36,15 @@
 extern "C" {
 #endif
 
-/* Lengths in bytes, and the number of levels. */
+/* Lengths in bytes, and the numbers of levels and columns. */
 enum {
     STATION_DATA_LEN = 150,
     STATION_PAGE_LEN = 252,
     STATION_SOFT_LEN = 1890,
     STATION_DUMP_LEN = 2048,
-    STATION_REPORT_LEN = 12,
-    STATION_LEVELS = 4
+    STATION_REPORT_LEN = 76,
+    STATION_LEVELS = 4,
+    STATION_COLUMNS = 63
 };
 
 /* Numbers of refusals. */
@@ -63,7 +64,8 @@ uint64_t station_encode_page(const uint8_t *data, size_t data_len, uint8_t *page
 
 /* Decodes a soft page of STATION_SOFT_LEN values, 30 a column; 0..3 read as bit 0 and 4..7 as bit 1, 0 and 7 being the surest. Each column is
    searched for at most 500 steps; a column that has no word by then counts as erased. Gives STATION_DATA_LEN bytes of data and a report of
-   STATION_REPORT_LEN bytes, which station_steps, station_changed and station_erased read. Refused by 1, 2, 5 and 10. */
+   STATION_REPORT_LEN bytes, which station_steps, station_changed, station_erased, station_changed_mark and station_erased_mark read. Refused by
+   1, 2, 5 and 10. */
 uint64_t station_decode_page(const uint8_t *soft, size_t soft_len, uint8_t *data, size_t data_len, uint8_t *report, size_t report_len);
 
 /* Reads the soft page of STATION_SOFT_LEN values out of a dump of STATION_DUMP_LEN bytes, four blocks of 512. Refused by 1, 2, 7, 8 and 5. */
@@ -85,6 +87,19 @@ static inline unsigned station_changed(const uint8_t report[STATION_REPORT_LEN],
 
 /* How many columns of a level, below STATION_LEVELS, were erased. */
 static inline unsigned station_erased(const uint8_t report[STATION_REPORT_LEN], unsigned level) { return report[5 + 2 * level]; }
+
+/* A mark: eight bytes, high byte first. Column j stands at bit j; bit 63 is 0. */
+static inline uint64_t station_mark(const uint8_t bytes[8]) {
+    uint64_t mark = 0;
+    for (int k = 0; k < 8; k++) mark = mark << 8 | bytes[k];
+    return mark;
+}
+
+/* Which columns the row of a level, below STATION_LEVELS, changed: a mark with as many ones as station_changed says. */
+static inline uint64_t station_changed_mark(const uint8_t report[STATION_REPORT_LEN], unsigned level) { return station_mark(report + 12 + 16 * level); }
+
+/* Which columns of a level, below STATION_LEVELS, were erased: a mark with as many ones as station_erased says. */
+static inline uint64_t station_erased_mark(const uint8_t report[STATION_REPORT_LEN], unsigned level) { return station_mark(report + 20 + 16 * level); }
 
 #ifdef __cplusplus
 }

@@ -13,8 +13,8 @@ typedef struct { uint64_t number, place, word, count; } found;
 /* What a call that fills a buffer tells. */
 typedef struct { uint64_t number, place; } filled;
 
-/* What page decoding tells. */
-typedef struct { uint64_t number, place, steps; uint8_t changed[4], erased[4]; } paged;
+/* What page decoding tells: of each level the totals and the marks, column j at bit j. */
+typedef struct { uint64_t number, place, steps; uint8_t changed[4], erased[4]; uint64_t changed_marks[4], erased_marks[4]; } paged;
 
 /* A part of the caller's own bytes. */
 typedef struct { const uint8_t *bytes; size_t count; } part;

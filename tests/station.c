@@ -1,11 +1,12 @@
-/* Calls the station's entries as a C program does: every length, NULL with length 0, bad values, late refusals, and the stored pages of a vector folder (default tests/vectors).
+/* Calls the station's entries as a C program does: every length, NULL with length 0, bad values, late refusals, a page whose changed and erased columns are known, and the stored pages of a
+   vector folder (default tests/vectors).
    A refused call may change no byte of any buffer or of the bytes around it. Prints `N checked, M differ`; fails if one differs. */
 #include "../c/station.h"
 #include <stdio.h>
 #include <stdlib.h>
 #include <string.h>
 
-enum { GUARD = 64, ROOM = 4096, LINE = 8192, BLOCK = 512, BLOCKS = 4, COLUMNS_AT = 16, VALUES = 480, CHECK_AT = 510 };
+enum { GUARD = 64, ROOM = 4096, LINE = 8192, BLOCK = 512, BLOCKS = 4, COLUMNS_AT = 16, VALUES = 480, CHECK_AT = 510, BITS = 30, TOTALS = 12 };
 
 /* A lent buffer between guards, and what it held before the call. */
 typedef struct { uint8_t space[GUARD + ROOM + GUARD], before[GUARD + ROOM + GUARD]; size_t len; } buffer;
@@ -31,10 +32,10 @@ static uint8_t *bytes(buffer *b) { return b->len ? b->space + GUARD : NULL; }
 
 static int kept(const buffer *b) { return !memcmp(b->space, b->before, sizeof b->space); }
 
-/* The buffer holds what was expected, and nothing around it changed. */
-static int holds(const buffer *b, const uint8_t *expected) {
+/* The buffer begins with the bytes that are known, and nothing around it changed. */
+static int holds(const buffer *b, const uint8_t *expected, size_t known) {
     const size_t after = GUARD + b->len;
-    return !memcmp(b->space, b->before, GUARD) && !memcmp(b->space + GUARD, expected, b->len)
+    return !memcmp(b->space, b->before, GUARD) && !memcmp(b->space + GUARD, expected, known)
            && !memcmp(b->space + after, b->before + after, sizeof b->space - after);
 }
 
@@ -46,22 +47,40 @@ static void encode(const char *what, const uint8_t *data, size_t data_len, size_
     lend(&in, data, STATION_DATA_LEN, data_len);
     lend(&out, NULL, 0, page_len);
     uint64_t r = station_encode_page(bytes(&in), in.len, bytes(&out), out.len);
-    check(is(r, number, 0) && kept(&in) && (page ? holds(&out, page) : kept(&out)), what, r);
+    check(is(r, number, 0) && kept(&in) && (page ? holds(&out, page, out.len) : kept(&out)), what, r);
 }
 
 static void read_dump(const char *what, const uint8_t *dump, size_t dump_len, size_t soft_len, unsigned number, uint64_t place, const uint8_t *soft) {
     lend(&in, dump, STATION_DUMP_LEN, dump_len);
     lend(&out, NULL, 0, soft_len);
     uint64_t r = station_read_dump(bytes(&in), in.len, bytes(&out), out.len);
-    check(is(r, number, place) && kept(&in) && (soft ? holds(&out, soft) : kept(&out)), what, r);
+    check(is(r, number, place) && kept(&in) && (soft ? holds(&out, soft, out.len) : kept(&out)), what, r);
 }
 
-static void decode(const char *what, const uint8_t *soft, size_t soft_len, size_t data_len, size_t report_len, unsigned number, uint64_t place, const uint8_t *data, const uint8_t *told) {
+/* What a page is to tell, its marks if they are known; entry 2i of totals and marks for the changed columns of level i, entry 2i + 1 for the erased ones. */
+typedef struct { uint8_t data[STATION_DATA_LEN]; int marked; uint64_t steps, totals[2 * STATION_LEVELS], marks[2 * STATION_LEVELS]; } answer;
+
+/* A number, high byte first. */
+static void put(uint8_t *to, int n, uint64_t number) {
+    for (int i = 0; i < n; i++) to[i] = (uint8_t)(number >> 8 * (n - 1 - i));
+}
+
+static int reported(const buffer *b, const answer *told) {
+    uint8_t expected[STATION_REPORT_LEN];
+    put(expected, 4, told->steps);
+    for (int k = 0; k < 2 * STATION_LEVELS; k++) {
+        put(expected + 4 + k, 1, told->totals[k]);
+        put(expected + TOTALS + 8 * k, 8, told->marks[k]);
+    }
+    return holds(b, expected, told->marked ? STATION_REPORT_LEN : TOTALS);
+}
+
+static void decode(const char *what, const uint8_t *soft, size_t soft_len, size_t data_len, size_t report_len, unsigned number, uint64_t place, const answer *told) {
     lend(&in, soft, STATION_SOFT_LEN, soft_len);
     lend(&out, NULL, 0, data_len);
     lend(&report, NULL, 0, report_len);
     uint64_t r = station_decode_page(bytes(&in), in.len, bytes(&out), out.len, bytes(&report), report.len);
-    int left = data ? holds(&out, data) && holds(&report, told) : kept(&out) && kept(&report);
+    int left = told ? holds(&out, told->data, out.len) && reported(&report, told) : kept(&out) && kept(&report);
     check(is(r, number, place) && kept(&in) && left, what, r);
 }
 
@@ -84,11 +103,12 @@ static void lengths(void) {
         read_dump("read, dump length", bad, dump, STATION_SOFT_LEN, STATION_INPUT_LENGTH, 0, NULL);
         read_dump("read, soft length", bad, STATION_DUMP_LEN, soft, STATION_OUTPUT_LENGTH, 0, NULL);
         read_dump("read, both lengths", bad, dump, soft, STATION_INPUT_LENGTH, 0, NULL);
-        decode("decode, soft length", bad, soft, STATION_DATA_LEN, STATION_REPORT_LEN, STATION_INPUT_LENGTH, 0, NULL, NULL);
-        decode("decode, data length", bad, STATION_SOFT_LEN, data, STATION_REPORT_LEN, STATION_OUTPUT_LENGTH, 0, NULL, NULL);
-        decode("decode, report length", bad, STATION_SOFT_LEN, STATION_DATA_LEN, told, STATION_OUTPUT_LENGTH, 0, NULL, NULL);
-        decode("decode, all lengths", bad, soft, data, told, STATION_INPUT_LENGTH, 0, NULL, NULL);
+        decode("decode, soft length", bad, soft, STATION_DATA_LEN, STATION_REPORT_LEN, STATION_INPUT_LENGTH, 0, NULL);
+        decode("decode, data length", bad, STATION_SOFT_LEN, data, STATION_REPORT_LEN, STATION_OUTPUT_LENGTH, 0, NULL);
+        decode("decode, report length", bad, STATION_SOFT_LEN, STATION_DATA_LEN, told, STATION_OUTPUT_LENGTH, 0, NULL);
+        decode("decode, all lengths", bad, soft, data, told, STATION_INPUT_LENGTH, 0, NULL);
     }
+    decode("decode, a report without marks", bad, STATION_SOFT_LEN, STATION_DATA_LEN, TOTALS, STATION_OUTPUT_LENGTH, 0, NULL);
 }
 
 /* Bad soft values: the first one is the place. */
@@ -98,7 +118,7 @@ static void soft_values(void) {
         uint8_t soft[STATION_SOFT_LEN] = {0};
         soft[STATION_SOFT_LEN - 1] = 255;
         soft[at[i]] = 8;
-        decode("decode, soft value", soft, sizeof soft, STATION_DATA_LEN, STATION_REPORT_LEN, STATION_VALUE, at[i], NULL, NULL);
+        decode("decode, soft value", soft, sizeof soft, STATION_DATA_LEN, STATION_REPORT_LEN, STATION_VALUE, at[i], NULL);
     }
 }
 
@@ -160,39 +180,66 @@ static void bytes_of(const char *text, uint8_t *to, size_t n) {
     }
 }
 
-/* An expect line of the supercode decoder with limit 500: the report's bytes, its helpers, and the data. */
-static void answered(const char *name, const char *line, const uint8_t *soft, const uint8_t *data) {
-    unsigned long steps, total[2 * STATION_LEVELS];
-    uint8_t told[STATION_REPORT_LEN], made[STATION_DATA_LEN] = {0};
-    int at = 0;
-    if (sscanf(line, "%lu %lu %lu %lu %lu %lu %lu %lu %lu %n", &steps, total, total + 1, total + 2, total + 3, total + 4, total + 5, total + 6, total + 7, &at) != 9) {
-        check(0, "an expect line", 0);
-        return;
+/* An answered page: its data, its report and the header's readers. Each mark has as many ones as its total, none at bit 63, and no column is both changed and erased. */
+static void answered(const char *name, const uint8_t *soft, const answer *told) {
+    decode(name, soft, STATION_SOFT_LEN, STATION_DATA_LEN, STATION_REPORT_LEN, STATION_OK, 0, told);
+    const uint8_t *r = bytes(&report);
+    int same = station_steps(r) == told->steps;
+    for (unsigned i = 0; i < STATION_LEVELS; i++) {
+        uint64_t changed = station_changed_mark(r, i), erased = station_erased_mark(r, i), changes = told->totals[2 * i], erasures = told->totals[2 * i + 1];
+        same &= station_changed(r, i) == changes && station_erased(r, i) == erasures;
+        same &= (uint64_t)__builtin_popcountll(changed) == changes && (uint64_t)__builtin_popcountll(erased) == erasures;
+        same &= !(changed & erased) && !((changed | erased) >> STATION_COLUMNS);
+        same &= !told->marked || (changed == told->marks[2 * i] && erased == told->marks[2 * i + 1]);
     }
-    if (strncmp(line + at, "same", 4)) bytes_of(line + at, made, sizeof made);
-    else memcpy(made, data, sizeof made);
-    for (int i = 0; i < 4; i++) told[i] = (uint8_t)(steps >> (24 - 8 * i));
-    for (int i = 0; i < 2 * STATION_LEVELS; i++) told[4 + i] = (uint8_t)total[i];
-    decode(name, soft, STATION_SOFT_LEN, STATION_DATA_LEN, STATION_REPORT_LEN, STATION_OK, 0, made, told);
-    int same = station_steps(bytes(&report)) == steps;
-    for (unsigned i = 0; i < STATION_LEVELS; i++) same &= station_changed(bytes(&report), i) == total[2 * i] && station_erased(bytes(&report), i) == total[2 * i + 1];
     check(same, "the header's readers of a report", 0);
 }
 
-/* pages.txt, whose form is in tests/vectors/README.md. Some page must be refused after level 0, when its first rows are already decoded. */
-static void pages(const char *folder) {
+/* Columns 0 and 33 read as nothing, and column 62 surely as one that differs by a word of level 3. */
+static void known_columns(void) {
+    const uint32_t level_word = 31139703;
+    uint8_t page[STATION_PAGE_LEN], soft[STATION_SOFT_LEN];
+    answer told = {.marked = 1, .steps = STATION_LEVELS * (61 * BITS + 2 * 500)};
+    for (int i = 0; i < STATION_DATA_LEN; i++) told.data[i] = (uint8_t)(37 * i + 11);
+    for (int i = 0; i < STATION_LEVELS; i++) {
+        told.totals[2 * i + 1] = 2;
+        told.marks[2 * i + 1] = (uint64_t)1 << 33 | 1;
+    }
+    told.totals[2 * 3] = 1;
+    told.marks[2 * 3] = (uint64_t)1 << 62;
+    check(station_encode_page(told.data, STATION_DATA_LEN, page, sizeof page) == STATION_OK, "encode", 0);
+    for (int k = 0; k < STATION_SOFT_LEN; k++) soft[k] = page[k / BITS * 4 + k % BITS / 8] >> (7 - k % BITS % 8) & 1 ? 7 : 0;
+    for (int p = 0; p < BITS; p++) if (level_word >> (BITS - 1 - p) & 1) soft[62 * BITS + p] = (uint8_t)(7 - soft[62 * BITS + p]);
+    memset(soft, 3, BITS);
+    memset(soft + 33 * BITS, 3, BITS);
+    answered("known columns", soft, &told);
+}
+
+/* The rest of an expect line after `ok`. In reports.txt the steps are followed by a low point, which the station does not tell, and each total by its mark. */
+static void expected(const char *name, char *at, int marked, const uint8_t *soft, const uint8_t *data) {
+    answer told = {.marked = marked, .steps = strtoul(at, &at, 10)};
+    if (marked && !strncmp(at, " low ", 5)) strtol(at + 5, &at, 10);
+    for (int k = 0; k < 2 * STATION_LEVELS; k++) {
+        told.totals[k] = strtoul(at, &at, 10);
+        if (marked) told.marks[k] = strtoull(at, &at, 16);
+    }
+    if (!strcmp(at, " same")) memcpy(told.data, data, STATION_DATA_LEN);
+    else if (strlen(at) == 1 + 2 * STATION_DATA_LEN) bytes_of(at + 1, told.data, STATION_DATA_LEN);
+    else check(0, "an expect line", 0);
+    answered(name, soft, &told);
+}
+
+/* pages.txt or reports.txt, whose forms are in tests/vectors/README.md: the lines of the supercode decoder with limit 500. Gives how many pages are refused after level 0, when their first
+   rows are already decoded. */
+static unsigned long pages(const char *folder, const char *text, int marked) {
     static char path[LINE], line[LINE], name[LINE];
     static uint8_t data[STATION_DATA_LEN], page[STATION_PAGE_LEN], soft[STATION_SOFT_LEN];
-    static const char ok[] = "expect super 500 ok ", refused[] = "expect super 500 refused ";
+    const char *mode = marked ? "expect super 500 - " : "expect super 500 ";
     unsigned number;
-    unsigned long place, late = 0;
-    snprintf(path, sizeof path, "%s/pages.txt", folder);
+    unsigned long place, late = 0, lines = 0;
+    snprintf(path, sizeof path, "%s/%s", folder, text);
     FILE *file = fopen(path, "r");
-    if (!file) {
-        check(0, path, 0);
-        return;
-    }
-    while (fgets(line, sizeof line, file)) {
+    while (file && fgets(line, sizeof line, file)) {
         line[strcspn(line, "\n")] = 0;
         if (!strncmp(line, "page ", 5)) strcpy(name, line + 5);
         if (!strncmp(line, "data ", 5)) bytes_of(line + 5, data, sizeof data);
@@ -201,21 +248,28 @@ static void pages(const char *folder) {
             encode(name, data, sizeof data, sizeof page, STATION_OK, page);
         }
         if (!strncmp(line, "soft ", 5)) for (int i = 0; i < STATION_SOFT_LEN && line[5 + i]; i++) soft[i] = (uint8_t)(line[5 + i] - '0');
-        if (!strncmp(line, ok, sizeof ok - 1)) answered(name, line + sizeof ok - 1, soft, data);
-        if (!strncmp(line, refused, sizeof refused - 1) && sscanf(line + sizeof refused - 1, "%u %lu", &number, &place) == 2) {
-            decode(name, soft, sizeof soft, STATION_DATA_LEN, STATION_REPORT_LEN, number, place, NULL, NULL);
+        if (strncmp(line, mode, strlen(mode))) continue;
+        char *rest = line + strlen(mode);
+        lines++;
+        if (!strncmp(rest, "ok ", 3)) expected(name, rest + 3, marked, soft, data);
+        else if (sscanf(rest, "refused %u %lu", &number, &place) == 2) {
+            decode(name, soft, sizeof soft, STATION_DATA_LEN, STATION_REPORT_LEN, number, place, NULL);
             late += number == STATION_NO_WORD && place > 0;
-        }
+        } else check(0, "an expect line", 0);
     }
-    fclose(file);
-    check(late > 0, "a page refused after level 0", 0);
+    if (file) fclose(file);
+    check(lines > 0, path, 0);
+    return late;
 }
 
 int main(int argc, char **argv) {
+    const char *folder = argc > 1 ? argv[1] : "tests/vectors";
     lengths();
     soft_values();
     dumps();
-    pages(argc > 1 ? argv[1] : "tests/vectors");
+    known_columns();
+    check(pages(folder, "pages.txt", 0) > 0, "a page refused after level 0", 0);
+    pages(folder, "reports.txt", 1);
     printf("%lu checked, %lu differ\n", checked, differ);
     return differ != 0;
 }

@@ -1,5 +1,5 @@
 /* Checks the vector files of a folder through the test entries: a line a file, then `N checked, M differ`.
-   The formats are those of tests/vectors/README.md. A line of a call that the store does not have yet is counted as left. */
+   The formats are those of tests/vectors/README.md. Lines of calls that the store does not have yet are counted as left, in files of other names too. */
 #include "entries.h"
 #include <dirent.h>
 #include <inttypes.h>
@@ -7,7 +7,7 @@
 #include <stdlib.h>
 #include <string.h>
 
-enum { LINE = 8192, FIELDS = 16, ROW = 63, SOFT = 1890, DUMP = 2048, DATA = 150, WRITTEN = 252 };
+enum { LINE = 8192, FIELDS = 32, ROW = 63, SOFT = 1890, DUMP = 2048, DATA = 150, WRITTEN = 252 };
 
 typedef struct { char *field[FIELDS]; int count; } record;
 typedef struct { unsigned long checked, differ, left; } tally;
@@ -22,6 +22,8 @@ static record split(char *line) {
 }
 
 static uint64_t decimal(const char *text) { return strtoull(text, NULL, 10); }
+
+static uint64_t hexadecimal(const char *text) { return strtoull(text, NULL, 16); }
 
 /* Two hexadecimal digits a byte, `-` for none. */
 static size_t bytes_of(const char *text, uint8_t *out, size_t room) {
@@ -116,14 +118,27 @@ static paged decoded(const char *mode, const uint8_t *soft, size_t n, uint64_t l
 /* pages.txt: a record is its lines page, data, written, soft, then expect lines. What the expect lines need is kept from the lines before. */
 static uint8_t page_data[DATA], page_soft[SOFT];
 
+/* An answered page's marks have as many ones as its totals, none at bit 63, and no column is both changed and erased. A refused page tells only number and place. */
+static int report_right(const paged *p) {
+    if (p->number) {
+        const paged refusal = {.number = p->number, .place = p->place};
+        return !memcmp(p, &refusal, sizeof refusal);
+    }
+    for (int i = 0; i < 4; i++) {
+        uint64_t changed = p->changed_marks[i], erased = p->erased_marks[i];
+        if (changed & erased || (changed | erased) >> ROW || __builtin_popcountll(changed) != p->changed[i] || __builtin_popcountll(erased) != p->erased[i]) return 0;
+    }
+    return 1;
+}
+
 static int level_totals(const paged *p, const record *r) {
     for (int i = 0; i < 4; i++)
         if (p->changed[i] != decimal(r->field[5 + 2 * i]) || p->erased[i] != decimal(r->field[6 + 2 * i])) return 0;
     return 1;
 }
 
-/* Pages and limits where the two decoders differ, all of them outside demand 3's premise. */
-static unsigned long pages_apart;
+/* Pages and limits where both decoders ran, and those where they differ, all of them outside demand 3's premise. */
+static unsigned long pages_compared, pages_apart;
 
 /* Demand 3, at several limits: an answered page with no column erased at levels 1 to 3 by the supercode decoder meets the premise, and there both decoders agree. */
 static verdict both_decoders(const uint8_t *soft) {
@@ -133,12 +148,21 @@ static verdict both_decoders(const uint8_t *soft) {
         uint8_t by_supercode[DATA] = {0}, by_whole[DATA] = {0};
         paged s = entry_decode_page(soft, SOFT, limits[i], by_supercode, DATA), w = entry_decode_page_whole(soft, SOFT, limits[i], by_whole, DATA);
         int same = s.number == w.number && s.place == w.place && !memcmp(by_supercode, by_whole, DATA)
-                   && !memcmp(s.changed, w.changed, sizeof s.changed) && !memcmp(s.erased, w.erased, sizeof s.erased);
+                   && !memcmp(s.changed, w.changed, sizeof s.changed) && !memcmp(s.erased, w.erased, sizeof s.erased)
+                   && !memcmp(s.changed_marks, w.changed_marks, sizeof s.changed_marks) && !memcmp(s.erased_marks, w.erased_marks, sizeof s.erased_marks);
         int premise = s.number == 0 && !s.erased[1] && !s.erased[2] && !s.erased[3];
-        if (premise && !(same && w.steps <= s.steps)) v = DIFFERS;
+        if (!report_right(&s) || !report_right(&w) || (premise && !(same && w.steps <= s.steps))) v = DIFFERS;
+        pages_compared++;
         pages_apart += !same;
     }
     return v;
+}
+
+/* The data of an expect line: `same` for those of the record, else in hexadecimal. */
+static int data_of_line(const uint8_t *out, const char *text) {
+    uint8_t expected[WRITTEN];
+    if (!strcmp(text, "same")) return !memcmp(out, page_data, DATA);
+    return bytes_of(text, expected, WRITTEN) == DATA && !memcmp(out, expected, DATA);
 }
 
 static verdict page_line(const record *r) {
@@ -156,12 +180,35 @@ static verdict page_line(const record *r) {
     }
     if (strcmp(r->field[0], "expect") || r->count < 6) return DIFFERS;
     paged p = decoded(r->field[1], page_soft, SOFT, decimal(r->field[2]), out, DATA);
+    if (!report_right(&p)) return DIFFERS;
     if (!strcmp(r->field[3], "refused") && r->count == 6)
         return p.number == decimal(r->field[4]) && p.place == decimal(r->field[5]) && untouched(out, sizeof out) ? SAME : DIFFERS;
     if (strcmp(r->field[3], "ok") || r->count != 14) return DIFFERS;
-    int same = !strcmp(r->field[13], "same");
-    if (!same && bytes_of(r->field[13], expected, WRITTEN) != DATA) return DIFFERS;
-    return p.number == 0 && p.steps == decimal(r->field[4]) && level_totals(&p, r) && !memcmp(out, same ? page_data : expected, DATA) ? SAME : DIFFERS;
+    return p.number == 0 && p.steps == decimal(r->field[4]) && level_totals(&p, r) && data_of_line(out, r->field[13]) ? SAME : DIFFERS;
+}
+
+/* Low points of answered pages: a field of a request to come, passed over. */
+static unsigned long low_points;
+
+static int level_marks(const paged *p, char *const *field) {
+    for (int i = 0; i < 4; i++, field += 4)
+        if (p->changed[i] != decimal(field[0]) || p->changed_marks[i] != hexadecimal(field[1]) || p->erased[i] != decimal(field[2]) || p->erased_marks[i] != hexadecimal(field[3])) return 0;
+    return 1;
+}
+
+/* reports.txt: the other lines are as in pages.txt; whole2 and super2 are calls to come. */
+static verdict report_line(const record *r) {
+    uint8_t out[WRITTEN];
+    if (strcmp(r->field[0], "expect")) return page_line(r);
+    if (r->count < 7) return DIFFERS;
+    if (strcmp(r->field[1], "whole") && strcmp(r->field[1], "super")) return LEFT;
+    memset(out, UNTOUCHED, sizeof out);
+    paged p = decoded(r->field[1], page_soft, SOFT, decimal(r->field[2]), out, DATA);
+    if (!report_right(&p)) return DIFFERS;
+    if (!strcmp(r->field[4], "refused") && r->count == 7) return refuses(p.number, p.place, r) == SAME && untouched(out, sizeof out) ? SAME : DIFFERS;
+    if (strcmp(r->field[4], "ok") || strcmp(r->field[6], "low") || r->count != 25) return DIFFERS;
+    low_points++;
+    return p.number == 0 && p.steps == decimal(r->field[5]) && level_marks(&p, r->field + 8) && data_of_line(out, r->field[24]) ? SAME : DIFFERS;
 }
 
 /* The input of a dump or page line: all zero, or the dump of the all-zero soft page, cut or lengthened by zeros, with the line's edits. */
@@ -228,7 +275,7 @@ static verdict refusal_line(const record *r) {
         dump_input(bytes, 0, r->field[5]);
         memset(page, UNTOUCHED, sizeof page);
         paged p = decoded(r->field[3], bytes, decimal(r->field[1]), decimal(r->field[4]), page, decimal(r->field[2]));
-        return refuses(p.number, p.place, r) == SAME && (p.number == 0 || untouched(page, sizeof page)) ? SAME : DIFFERS;
+        return refuses(p.number, p.place, r) == SAME && report_right(&p) && (p.number == 0 || untouched(page, sizeof page)) ? SAME : DIFFERS;
     }
     if (!strcmp(r->field[0], "write_dump") && r->count == 6)
         return dump_refuses(entry_write_dump, r, 0, SOFT);
@@ -259,11 +306,13 @@ static tally check_file(const char *folder, const char *name, verdict (*line_of)
     fclose(file);
     printf("%s: %lu checked, %lu differ", name, t.checked, t.differ);
     if (t.left) printf(", %lu of calls to come", t.left);
+    if (low_points) printf(", %lu low points of a request to come", low_points);
+    low_points = 0;
     printf("\n");
     return t;
 }
 
-/* dumps/: NAME.bin is what readpage reads, NAME.out what it prints. */
+/* dumps/: NAME.bin is what readpage reads, NAME.out what it prints; where the outputs after several requests are kept, NAME.point6.out. */
 static verdict dump_file(const char *folder, const char *name) {
     static uint8_t in[2 * LINE], soft[SOFT], data[DATA];
     char path[4096], expected[LINE], found[LINE];
@@ -274,7 +323,11 @@ static verdict dump_file(const char *folder, const char *name) {
     size_t n = fread(in, 1, sizeof in, file);
     fclose(file);
     snprintf(path, sizeof path, "%s/dumps/%.*s.out", folder, (int)stem, name);
-    if (!(file = fopen(path, "rb"))) return DIFFERS;
+    if (!(file = fopen(path, "rb"))) {
+        snprintf(path, sizeof path, "%s/dumps/%.*s.point6.out", folder, (int)stem, name);
+        file = fopen(path, "rb");
+    }
+    if (!file) return DIFFERS;
     expected[fread(expected, 1, sizeof expected - 1, file)] = 0;
     fclose(file);
     filled f = entry_read_dump(in, n, soft, SOFT);
@@ -288,12 +341,39 @@ static verdict dump_file(const char *folder, const char *name) {
         snprintf(found, sizeof found, "page refused %" PRIu64 " place %" PRIu64 "\n", f.number, f.place);
     } else {
         int at = snprintf(found, sizeof found, "page ok steps %" PRIu64 "\n", p.steps);
-        for (int i = 0; i < 4; i++) at += snprintf(found + at, sizeof found - (size_t)at, "level %d changed %d erased %d\n", i, p.changed[i], p.erased[i]);
+        for (int i = 0; i < 4; i++)
+            at += snprintf(found + at, sizeof found - (size_t)at, "level %d changed %d %016" PRIx64 " erased %d %016" PRIx64 "\n", i, p.changed[i], p.changed_marks[i], p.erased[i], p.erased_marks[i]);
         at += snprintf(found + at, sizeof found - (size_t)at, "data ");
         for (int i = 0; i < DATA; i++) at += snprintf(found + at, sizeof found - (size_t)at, "%02x", data[i]);
         snprintf(found + at, sizeof found - (size_t)at, "\n");
     }
     return strcmp(found, expected) ? DIFFERS : SAME;
+}
+
+static const struct { const char *name; verdict (*line_of)(const record *); } texts[] = {
+    {"code.txt", code_line}, {"columns.txt", column_line}, {"outer.txt", outer_line}, {"pages.txt", page_line}, {"reports.txt", report_line}, {"refusals.txt", refusal_line},
+};
+enum { TEXTS = sizeof texts / sizeof texts[0] };
+
+/* Files of calls to come, in the folder itself or in a folder below it: how many lines each has. */
+static void count_left(const char *folder, const char *below) {
+    char path[4096];
+    snprintf(path, sizeof path, "%s/%s", folder, below);
+    DIR *dir = opendir(path);
+    if (!dir) return;
+    for (struct dirent *entry; (entry = readdir(dir));) {
+        size_t n = strlen(entry->d_name);
+        int known = n < 5 || strcmp(entry->d_name + n - 4, ".txt");
+        for (int i = 0; i < TEXTS; i++) known |= !*below && !strcmp(entry->d_name, texts[i].name);
+        snprintf(path, sizeof path, "%s/%s%s", folder, below, entry->d_name);
+        FILE *file = known ? NULL : fopen(path, "r");
+        if (!file) continue;
+        unsigned long lines = 0;
+        for (int c; (c = getc(file)) != EOF;) lines += c == '\n';
+        fclose(file);
+        printf("%s%s: %lu of calls to come\n", below, entry->d_name, lines);
+    }
+    closedir(dir);
 }
 
 static tally check_dumps(const char *folder) {
@@ -320,6 +400,7 @@ static tally check_dumps(const char *folder) {
 static tally check_trips(void) {
     static uint8_t data[DATA], page[WRITTEN], soft[SOFT], again[SOFT], dump[DUMP], back[DATA];
     tally t = {0, 0, 0};
+    const paged clean = {.steps = 7560};
     uint64_t state = 20261115;
     for (int trip = 0; trip < 40; trip++) {
         for (int i = 0; i < DATA; i++) {
@@ -330,11 +411,11 @@ static tally check_trips(void) {
         for (int k = 0; k < SOFT; k++) soft[k] = page[k / 30 * 4 + k % 30 / 8] >> (7 - k % 30 % 8) & 1 ? 7 : 0;
         filled w = entry_write_dump(soft, SOFT, dump, DUMP), r = entry_read_dump(dump, DUMP, again, SOFT);
         paged s = entry_decode_page(again, SOFT, 500, back, DATA);
-        int same = !w.number && !r.number && !s.number && s.steps == 7560 && !memcmp(soft, again, SOFT) && !memcmp(data, back, DATA);
+        int same = !w.number && !r.number && !memcmp(&s, &clean, sizeof s) && !memcmp(soft, again, SOFT) && !memcmp(data, back, DATA);
         memset(back, UNTOUCHED, DATA);
         paged h = entry_decode_page_whole(again, SOFT, 500, back, DATA);
         t.checked++;
-        t.differ += !(same && !h.number && h.steps == 7560 && !memcmp(data, back, DATA));
+        t.differ += !(same && !memcmp(&h, &clean, sizeof h) && !memcmp(data, back, DATA));
     }
     for (int k = 0; k < DUMP; k++) {
         uint8_t kept = dump[k];
@@ -376,24 +457,21 @@ static tally check_look_ups(void) {
 
 int main(int argc, char **argv) {
     const char *folder = argc > 1 ? argv[1] : "tests/vectors";
-    tally files[] = {
-        check_file(folder, "code.txt", code_line),
-        check_file(folder, "columns.txt", column_line),
-        check_file(folder, "outer.txt", outer_line),
-        check_file(folder, "pages.txt", page_line),
-        check_file(folder, "refusals.txt", refusal_line),
-        check_dumps(folder),
-        check_trips(),
-        check_look_ups(),
-    };
+    tally parts[TEXTS + 3];
+    for (int i = 0; i < TEXTS; i++) parts[i] = check_file(folder, texts[i].name, texts[i].line_of);
+    count_left(folder, "");
+    count_left(folder, "long/");
+    parts[TEXTS] = check_dumps(folder);
+    parts[TEXTS + 1] = check_trips();
+    parts[TEXTS + 2] = check_look_ups();
     unsigned long checked = 0, differ = 0;
-    if (files[3].checked) {
+    if (pages_compared) {
         printf("pages and limits outside the premise where the two decoders differ: %lu\n", pages_apart);
         differ += !pages_apart;
     }
-    for (size_t i = 0; i < sizeof files / sizeof files[0]; i++) {
-        checked += files[i].checked;
-        differ += files[i].differ;
+    for (int i = 0; i < TEXTS + 3; i++) {
+        checked += parts[i].checked;
+        differ += parts[i].differ;
     }
     printf("%lu checked, %lu differ\n", checked, differ);
     return differ || !checked;

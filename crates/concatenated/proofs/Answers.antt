@@ -1,5 +1,5 @@
--- What an answer is made of: at each level the row is the codeword in reach, and the totals of changed and erased columns are e and s of the outer rule. Assumes nothing.
-use mathlib.Core.Bool.{Bool}
+-- What an answer is made of: at each level the row is the codeword in reach, the totals of changed and erased columns are e and s of the outer rule, and no column is both. Assumes nothing.
+use mathlib.Core.Bool.{Bool, true, false}
 use mathlib.Core.List.{List, [], _∷_, _++_, map}
 use mathlib.Core.Logic.{⊎-elim}
 use mathlib.Core.Path.{_≡_, refl, sym, ap, _∙_, subst, subst⁻¹}
@@ -19,6 +19,7 @@ use Rattle.concatenated.specs.Outer.{RowDecoder, RowEncoder, isIn, Outer
 use Rattle.concatenated.specs.Decode.{Reader, mark, marks, symbol, symbols, rowOff, Level, level, State, going, stopped, answered, refused, decodedRow, settle, onward, run, Reaches, outcome, decoded}
 use Rattle.concatenated.proofs.Counting.{changed-total-is-e, erased-total-is-s}
 use Rattle.concatenated.proofs.Columns.{row-off-length}
+use Rattle.concatenated.proofs.Entries.{changed-length, erased-is-not-changed}
 
 stopped-is-not-going : {X : Type 0} (l : ℕ) (cs : List (List ℕ)) (ls : List Level) (n : ℕ) → stopped l ≡ going cs ls n → X
 stopped-is-not-going l cs ls n e = let z : _≡_ {A = ℕ} 0 1 = cc in absurd (omega arith)
@@ -156,3 +157,29 @@ module _ (P : Format) (outer : RowDecoder) (encoded : RowEncoder) (Codeword : �
   -- at each level of an answered page the number of changed columns is e, and of erased ones s
   pub changed-and-erased-are-e-and-s : (ls : List Level) (n : ℕ) → decoded S outer read page ≡ answered ls n → (i : ℕ) → i < levels S → (d : Level) → OuterRule i (getD ls i d)
   changed-and-erased-are-e-and-s ls n e i h d = level-keeps-the-rule i (getD ls i d) h (answer-is-of-levels S outer read page ls n e .each i h d)
+
+  -- the sets of a level say of each column whether it is in, and no erased column is a changed one
+  pub record LevelSets (l : Level) : Type 0 where
+    pub changed-long : length (l .changed) ≡ P .columns
+    pub erased-long : length (l .erased) ≡ P .columns
+    pub apart : (j : ℕ) → isIn (l .erased) j ≡ true → isIn (l .changed) j ≡ false
+
+  level-has-sets : (i : ℕ) (l : Level) → i < levels S → LevelOf S outer read page i l → LevelSets l
+  unfolding decodedRow level
+  level-has-sets i l h of =
+      let cs = of .columns in
+      let rs = map (read i) cs in
+      let long = columns-long i cs (reached-columns-are-all i (omega arith) cs (of .reached)) in
+      let xs = symbols S i rs in
+      let ms = marks rs in
+      let c = l .symbols in
+      let lc : length c ≡ P .columns = laws .word i c h (laws .given i xs ms c h (long .0) (long .1) (of .row-given) .0) .0 in
+      subst⁻¹ LevelSets (of .is-level)
+      (record {
+        changed-long = changed-length xs ms c (long .1 ∙ sym (long .0)) (lc ∙ sym (long .0)) ∙ long .0;
+        erased-long = long .1;
+        apart = erased-is-not-changed xs ms c;
+      })
+
+  pub sets-of-levels : (ls : List Level) (n : ℕ) → decoded S outer read page ≡ answered ls n → (i : ℕ) → i < levels S → (d : Level) → LevelSets (getD ls i d)
+  sets-of-levels ls n e i h d = level-has-sets i (getD ls i d) h (answer-is-of-levels S outer read page ls n e .each i h d)

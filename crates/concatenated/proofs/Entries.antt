@@ -1,5 +1,5 @@
 -- The entries of what a level makes, one by one. Assumes nothing.
-use mathlib.Core.Bool.{Bool, false}
+use mathlib.Core.Bool.{Bool, true, false}
 use mathlib.Core.List.{List, [], _∷_}
 use mathlib.Core.Path.{_≡_, refl, ap, _∙_}
 use Prim.Native.Nat.{ℕ, zero, suc, _-_, _<_}
@@ -47,3 +47,12 @@ changed-at (x ∷ xs) [] r j e f h = absurd (omega arith)
 changed-at (x ∷ xs) (m ∷ ms) [] j e f h = absurd (omega arith)
 changed-at (x ∷ xs) (m ∷ ms) (y ∷ r) zero e f h = refl
 changed-at (x ∷ xs) (m ∷ ms) (y ∷ r) (suc j) e f h = changed-at xs ms r j (suc-inj e) (suc-inj f) (le-of-suc-le-suc h)
+
+-- an erased column is no changed one
+pub erased-is-not-changed : (xs : List ℕ) (ms : List Bool) (r : List ℕ) (j : ℕ) → getD ms j false ≡ true → getD (changed xs ms r) j false ≡ false
+unfolding changed
+erased-is-not-changed [] ms r j e = refl
+erased-is-not-changed (x ∷ xs) [] r j e = refl
+erased-is-not-changed (x ∷ xs) (m ∷ ms) [] j e = refl
+erased-is-not-changed (x ∷ xs) (m ∷ ms) (y ∷ r) zero e = ap (λ (b : Bool). isChanged b x y) e
+erased-is-not-changed (x ∷ xs) (m ∷ ms) (y ∷ r) (suc j) e = erased-is-not-changed xs ms r j e

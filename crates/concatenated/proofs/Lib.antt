@@ -22,6 +22,6 @@ pub mod Groups
 pub mod DataGroups
 pub mod PageBytes
 pub mod OuterJoint
-pub mod SetSizes
 pub mod Zeros
 pub mod ZeroPage
+pub mod Marks

@@ -1,4 +1,4 @@
--- For the code's contracts: what the arrays of columns, of rows and of flags hold. Assumes nothing.
+-- For the code's contracts: what the arrays of columns and of rows hold. Assumes nothing.
 use mathlib.Core.List.{List, []}
 use mathlib.Core.Path.{_≡_}
 use Prim.Native.Nat.{ℕ, _<_}
@@ -16,7 +16,3 @@ pub record SoftColumns (work : List (List ℕ)) : Type 0 where
 pub record Rows (rows : List (List ℕ)) : Type 0 where
   pub four : length rows ≡ 4
   pub words : (i : ℕ) → i < 4 → WordOf 64 63 (getD rows i [])
-
--- four sets, each with a flag for each of 63 columns
-abbrev pub FourSets : List (List ℕ) → Type 0
-FourSets sets = (length sets ≡ 4) × ((i : ℕ) → i < 4 → length (getD sets i []) ≡ 63)

@@ -14,3 +14,4 @@ pub mod Places
 pub mod Arrays
 pub mod OuterCode
 pub mod ZeroPage
+pub mod Marks

@@ -31,7 +31,9 @@ pub record Replied (due : Outcome) (made old : List ℕ) (r : Reply) (new : List
   pub bytes : new ≡ outcomes.after due made old
 
 abbrev pub pageReplyOf : PageOutcome → PageReply
-pageReplyOf o = record { number = o .number; place = o .place; steps = o .steps; changed = o .changed; erased = o .erased }
+pageReplyOf o =
+    let r = o .report in
+    record { number = o .number; place = o .place; steps = r .steps; changed = r .changed; erased = r .erased; «changed_marks» = r .«changed_marks»; «erased_marks» = r .«erased_marks» }
 
 -- a page call told r of the outcome that its contract settles, and left `new` in the place of `old`
 pub record PageReplied (s : Search) (soft : List ℕ) (limit : ℕ) (old : List ℕ) (r : PageReply) (new : List ℕ) : Type 0 where

@@ -177,19 +177,26 @@ pub struct PageReply {
     pub steps: u64,
     pub changed: [u8; 4],
     pub erased: [u8; 4],
+    pub changed_marks: [u64; 4],
+    pub erased_marks: [u64; 4],
 }
 
 fn numbers_of_page(outcome: PageOutcome) -> PageReply
     ensures { λ r. ⌜ r ≡ pageReplyOf outcome ⌝ }
 {
-    let c = outcome.changed;
-    let e = outcome.erased;
+    let report = outcome.report;
+    let changed = report.changed;
+    let erased = report.erased;
+    let changed_marks = report.changed_marks;
+    let erased_marks = report.erased_marks;
     PageReply {
         number: outcome.number,
         place: outcome.place,
-        steps: outcome.steps,
-        changed: c,
-        erased: e,
+        steps: report.steps,
+        changed: changed,
+        erased: erased,
+        changed_marks: changed_marks,
+        erased_marks: erased_marks,
     }
 }
 

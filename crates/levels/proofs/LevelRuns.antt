@@ -11,15 +11,14 @@ use lib.ListN.{length, length-set, length-map, getD, take, set}
 use lib.Seq.{take-suc-set, take-all, getD-set-same, getD-set-other}
 use Rattle.column.specs.Shape.{short}
 use Rattle.reedsolomon.specs.Search.{WordOf, OuterAnswer, Found, NoneInReach}
-use Rattle.concatenated.specs.Decode.{Reader, symbol, symbols, mark, marks, changed, decodedRow, Level, level, State, going, stopped, settle, onward, run, outcome, decoded, rows}
-use Rattle.concatenated.specs.Flags.{flag}
+use Rattle.concatenated.specs.Decode.{Reader, decodedRow, Level, level, State, going, stopped, settle, onward, run, outcome, decoded, rows}
+use Rattle.concatenated.specs.Marks.{markOf, changedMarks, erasedMarks}
 use Rattle.concatenated.specs.Arrays.{SoftColumns}
 use Rattle.concatenated.specs.OuterCode.{shortOuter}
-use Rattle.levels.specs.Levels.{Ended, LevelDone, changedFlags, erasedFlags, Ends, ColumnsDone}
+use Rattle.levels.specs.Levels.{Ended, LevelDone, Ends, ColumnsDone}
 use Rattle.levels.specs.declared.LevelOut.{LevelOut}
 use Rattle.levels.specs.declared.ColumnsOutcome.the-variants.{Answered, Refused}
 use Rattle.concatenated.proofs.Lists.{map-append}
-use Rattle.concatenated.proofs.Entries.{changed-length}
 use Rattle.levels.proofs.LevelSteps.{row-is-a-word}
 
 -- tests of what is not so
@@ -32,20 +31,18 @@ so true e = refl
 so false e = absurd (true≢false e)
 
 -- what is held of the levels below i
-pub record Decoding (read : Reader) (page work held changes erased : List (List ℕ)) (sum i : ℕ) : Type 0 where
+pub record Decoding (read : Reader) (page work held : List (List ℕ)) (changed erased : List ℕ) (sum i : ℕ) : Type 0 where
   pub within : i ≤ 4
   pub soft : SoftColumns work
   pub long-held : length held ≡ 4
-  pub long-changes : length changes ≡ 4
+  pub long-changed : length changed ≡ 4
   pub long-erased : length erased ≡ 4
   pub levels : List Level
   pub so-far : run short shortOuter read page i ≡ going work levels sum
   pub rows-so : take i held ≡ map (λ l. l .symbols) levels
-  pub changes-so : take i changes ≡ changedFlags levels
-  pub erased-so : take i erased ≡ erasedFlags levels
+  pub changed-so : take i changed ≡ changedMarks levels
+  pub erased-so : take i erased ≡ erasedMarks levels
   pub words : (k : ℕ) → k < i → WordOf 64 63 (getD held k [])
-  pub changes-wide : (k : ℕ) → k < i → length (getD changes k []) ≡ 63
-  pub erased-wide : (k : ℕ) → k < i → length (getD erased k []) ≡ 63
   pub few : sum ≤ 126000 * i
 
 held-more : {A B : Type 0} (f : A → B) (xs : List B) (ls : List A) (i : ℕ) (v : B) (l : A) → i < length xs → take i xs ≡ map f ls → v ≡ f l
@@ -68,7 +65,7 @@ stays read page i l e (suc k) =
     let z : i + suc k ≡ suc (i + k) = omega arith in
     ap (run short shortOuter read page) z ∙ ap (onward short shortOuter read (i + k)) (stays read page i l e k)
 
-module _ (read : Reader) (page work held changes erased : List (List ℕ)) (sum i : ℕ) (f : Decoding read page work held changes erased sum i) (h : i < 4) (out : LevelOut)
+module _ (read : Reader) (page work held : List (List ℕ)) (changed erased : List ℕ) (sum i : ℕ) (f : Decoding read page work held changed erased sum i) (h : i < 4) (out : LevelOut)
     (after : List (List ℕ)) (done : LevelDone read i work out after) where
   onwards : (o : OuterAnswer) → decodedRow short shortOuter i (map (read i) work) ≡ o → run short shortOuter read page (suc i) ≡ settle short shortOuter i work (map (read i) work) (f .levels) sum o
   unfolding run onward
@@ -77,21 +74,14 @@ module _ (read : Reader) (page work held changes erased : List (List ℕ)) (sum 
   word : (r : List ℕ) → decodedRow short shortOuter i (map (read i) work) ≡ Found r → WordOf 64 63 r
   word r e = row-is-a-word i h (map (read i) work) (length-map work (read i) ∙ f .soft .many) r e
 
-  wide : (r : List ℕ) → length r ≡ 63 → length (map flag (changed (symbols short i (map (read i) work)) (marks (map (read i) work)) r)) ≡ 63
-  wide r e =
-      let rs = map (read i) work in
-      let long : length rs ≡ 63 = length-map work (read i) ∙ f .soft .many in
-      let long-symbols : length (symbols short i rs) ≡ 63 = length-map rs (symbol short i) ∙ long in
-      length-map (changed (symbols short i rs) (marks rs) r) flag ∙ changed-length (symbols short i rs) (marks rs) r (length-map rs mark ∙ long ∙ sym long-symbols) (e ∙ sym long-symbols) ∙ long-symbols
-
   -- one level more, whose steps are added
   pub decoding-more : out .settled ≡ true → out .count ≤ 126000 → SoftColumns after → (total : ℕ) → total ≡ sum + out .count
-      → Decoding read page after (set held i (out .row)) (set changes i (out .changed)) (set erased i (out .erased)) total (i + 1)
+      → Decoding read page after (set held i (out .row)) (set changed i (out .changed)) (set erased i (out .erased)) total (i + 1)
   unfolding LevelDone level settle
   decoding-more ok few soft total et = go (decodedRow short shortOuter i (map (read i) work)) refl done
     where
       go : (o : OuterAnswer) → decodedRow short shortOuter i (map (read i) work) ≡ o → Ended o i (map (read i) work) work out after
-          → Decoding read page after (set held i (out .row)) (set changes i (out .changed)) (set erased i (out .erased)) total (i + 1)
+          → Decoding read page after (set held i (out .row)) (set changed i (out .changed)) (set erased i (out .erased)) total (i + 1)
       go NoneInReach e d = absurd (true≢false (sym ok ∙ d))
       go (Found r) e d =
           let l = level short i (map (read i) work) r in
@@ -99,18 +89,16 @@ module _ (read : Reader) (page work held changes erased : List (List ℕ)) (sum 
             within = omega arith;
             soft = soft;
             long-held = length-set held i (out .row) ∙ f .long-held;
-            long-changes = length-set changes i (out .changed) ∙ f .long-changes;
+            long-changed = length-set changed i (out .changed) ∙ f .long-changed;
             long-erased = length-set erased i (out .erased) ∙ f .long-erased;
             levels = f .levels ++ (l ∷ []);
             so-far =
                 ap (run short shortOuter read page) (add-one i) ∙ onwards (Found r) e
                 ∙ ap₂ (λ (cs : List (List ℕ)) (n : ℕ). going cs (f .levels ++ (l ∷ [])) n) (sym (d .5)) (omega (arith, d .4, et));
             rows-so = held-more (λ x. x .symbols) held (f .levels) i (out .row) l (omega (arith, f .long-held)) (f .rows-so) (d .1);
-            changes-so = held-more (λ x. map flag (x .changed)) changes (f .levels) i (out .changed) l (omega (arith, f .long-changes)) (f .changes-so) (d .2);
-            erased-so = held-more (λ x. map flag (x .erased)) erased (f .levels) i (out .erased) l (omega (arith, f .long-erased)) (f .erased-so) (d .3);
+            changed-so = held-more (λ x. markOf (x .changed)) changed (f .levels) i (out .changed) l (omega (arith, f .long-changed)) (f .changed-so) (d .2);
+            erased-so = held-more (λ x. markOf (x .erased)) erased (f .levels) i (out .erased) l (omega (arith, f .long-erased)) (f .erased-so) (d .3);
             words = each-more (WordOf 64 63) held i (out .row) (omega (arith, f .long-held)) (f .words) (subst⁻¹ (WordOf 64 63) (d .1) (word r e));
-            changes-wide = each-more (λ s. length s ≡ 63) changes i (out .changed) (omega (arith, f .long-changes)) (f .changes-wide) (ap length (d .2) ∙ wide r (word r e .0));
-            erased-wide = each-more (λ s. length s ≡ 63) erased i (out .erased) (omega (arith, f .long-erased)) (f .erased-wide) (ap length (d .3) ∙ length-map (marks (map (read i) work)) flag ∙ length-map (map (read i) work) mark ∙ length-map work (read i) ∙ f .soft .many);
             few = omega (arith, f .few, few, et);
           }
 
@@ -122,45 +110,43 @@ module _ (read : Reader) (page work held changes erased : List (List ℕ)) (sum 
       go NoneInReach e d = onwards NoneInReach e
       go (Found r) e d = absurd (true≢false (sym (d .0) ∙ z))
 
-  pub decoding-refused : out .settled ≡ false → (held′ changes′ erased′ : List (List ℕ)) → ColumnsDone read page (Refused i) held′ changes′ erased′
+  pub decoding-refused : out .settled ≡ false → (held′ : List (List ℕ)) (changed′ erased′ : List ℕ) → ColumnsDone read page (Refused i) held′ changed′ erased′
   unfolding ColumnsDone decoded outcome
-  decoding-refused z held′ changes′ erased′ =
+  decoding-refused z held′ changed′ erased′ =
       let k : suc i + (3 - i) ≡ 4 = omega arith in
       let e : run short shortOuter read page 4 ≡ stopped i = sym (ap (run short shortOuter read page) k) ∙ stays read page (suc i) i (stop z) (3 - i) in
-      subst⁻¹ (λ (x : State). Ends (outcome x) (Refused i) held′ changes′ erased′) e refl
+      subst⁻¹ (λ (x : State). Ends (outcome x) (Refused i) held′ changed′ erased′) e refl
 
-pub decoding-answered : (read : Reader) (page work held changes erased : List (List ℕ)) (sum i : ℕ) → Decoding read page work held changes erased sum i → 4 ≤ i
-    → ColumnsDone read page (Answered sum) held changes erased
+pub decoding-answered : (read : Reader) (page work held : List (List ℕ)) (changed erased : List ℕ) (sum i : ℕ) → Decoding read page work held changed erased sum i → 4 ≤ i
+    → ColumnsDone read page (Answered sum) held changed erased
 unfolding ColumnsDone decoded outcome rows
-decoding-answered read page work held changes erased sum i f h =
+decoding-answered read page work held changed erased sum i f h =
     let four : i ≡ 4 = omega (arith, f .within, h) in
-    subst⁻¹ (λ (x : State). Ends (outcome x) (Answered sum) held changes erased) (ap (run short shortOuter read page) (sym four) ∙ f .so-far) (
+    subst⁻¹ (λ (x : State). Ends (outcome x) (Answered sum) held changed erased) (ap (run short shortOuter read page) (sym four) ∙ f .so-far) (
       refl,
       sym (take-all i held (omega (arith, f .long-held))) ∙ f .rows-so,
-      sym (take-all i changes (omega (arith, f .long-changes))) ∙ f .changes-so,
+      sym (take-all i changed (omega (arith, f .long-changed))) ∙ f .changed-so,
       sym (take-all i erased (omega (arith, f .long-erased))) ∙ f .erased-so,
       record { four = f .long-held; words = λ k l. f .words k (omega (arith, four, l)) },
-      (f .long-changes, λ k l. f .changes-wide k (omega (arith, four, l))),
-      (f .long-erased, λ k l. f .erased-wide k (omega (arith, four, l))),
+      f .long-changed,
+      f .long-erased,
     )
 
-pub decoding-none : (read : Reader) (page held changes erased : List (List ℕ)) → SoftColumns page → length held ≡ 4 → length changes ≡ 4 → length erased ≡ 4
-    → Decoding read page page held changes erased 0 0
+pub decoding-none : (read : Reader) (page held : List (List ℕ)) (changed erased : List ℕ) → SoftColumns page → length held ≡ 4 → length changed ≡ 4 → length erased ≡ 4
+    → Decoding read page page held changed erased 0 0
 unfolding run
-decoding-none read page held changes erased s a b c =
+decoding-none read page held changed erased s a b c =
     record {
       within = omega arith;
       soft = s;
       long-held = a;
-      long-changes = b;
+      long-changed = b;
       long-erased = c;
       levels = [];
       so-far = refl;
       rows-so = refl;
-      changes-so = refl;
+      changed-so = refl;
       erased-so = refl;
       words = λ k l. absurd (not-suc-le-zero l);
-      changes-wide = λ k l. absurd (not-suc-le-zero l);
-      erased-wide = λ k l. absurd (not-suc-le-zero l);
       few = omega arith;
     }

@@ -15,6 +15,7 @@ use Rattle.concatenated.specs.SoftPage.{Soft}
 use Rattle.concatenated.specs.Decode.{Reading, symbol, symbols, mark, marks, changed, rowOff, decodedRow}
 use Rattle.concatenated.specs.Readers.{shortReader}
 use Rattle.concatenated.specs.Flags.{flag, isOne}
+use Rattle.concatenated.specs.Marks.{markOf}
 use Rattle.concatenated.specs.Arrays.{SoftColumns}
 use Rattle.readings.specs.Steps.{RowRead}
 use Rattle.concatenated.specs.OuterCode.{shortOuter}
@@ -90,14 +91,15 @@ module _ (i : ℕ) (h : i < 4) (rs : List Reading) (long : length rs ≡ 63) (xs
   pub level-refused : settled ≡ false → (work after : List (List ℕ)) (out : LevelOut) → out .settled ≡ false → Ended (decodedRow short shortOuter i rs) i rs work out after
   level-refused e work after out f = subst⁻¹ (λ (o : OuterAnswer). Ended o i rs work out after) (no-row e) f
 
-  pub level-settled : settled ≡ true → (work after : List (List ℕ)) (out : LevelOut) → out .settled ≡ true → out .row ≡ new → out .changed ≡ map flag (changed xs (map isOne ms) new) → out .erased ≡ ms
+  pub level-settled : settled ≡ true → (work after : List (List ℕ)) (out : LevelOut) → out .settled ≡ true → out .row ≡ new → out .changed ≡ markOf (changed xs (map isOne ms) new) → out .erased ≡ markOf (map isOne ms)
       → out .count ≡ n → after ≡ rowOff short i new work → Ended (decodedRow short shortOuter i rs) i rs work out after
   level-settled e work after out e0 e1 e2 e3 e4 e5 =
+      let marked : map isOne ms ≡ marks rs = ap (map isOne) (read .marks-are) ∙ flags-back (marks rs) in
       subst⁻¹ (λ (o : OuterAnswer). Ended o i rs work out after) (is-row e) (
         e0,
         e1,
-        e2 ∙ ap₂ (λ (x : List ℕ) (m : List Bool). map flag (changed x m new)) (read .symbols-are) (ap (map isOne) (read .marks-are) ∙ flags-back (marks rs)),
-        e3 ∙ read .marks-are,
+        e2 ∙ ap₂ (λ (x : List ℕ) (m : List Bool). markOf (changed x m new)) (read .symbols-are) marked,
+        e3 ∙ ap markOf marked,
         e4 ∙ read .steps-are,
         e5,
       )

@@ -3,39 +3,33 @@ use mathlib.Core.Bool.{true, false}
 use mathlib.Core.List.{List, map}
 use mathlib.Core.Path.{_≡_}
 use Prim.Native.Nat.{ℕ}
+use lib.ListN.{length}
 use Rattle.column.specs.Shape.{short}
 use Rattle.levels.specs.declared.LevelOut.{LevelOut}
 use Rattle.levels.specs.declared.ColumnsOutcome.{ColumnsOutcome}
 use Rattle.levels.specs.declared.ColumnsOutcome.the-variants.{Answered, Refused}
 use Rattle.reedsolomon.specs.Search.{OuterAnswer, Found, NoneInReach}
-use Rattle.concatenated.specs.Decode.{Reading, Reader, symbols, marks, steps, changed, rowOff, decodedRow, Level, rows, PageAnswer, answered, refused, decoded}
-use Rattle.concatenated.specs.Flags.{flag}
-use Rattle.concatenated.specs.Arrays.{Rows, FourSets}
+use Rattle.concatenated.specs.Decode.{Reading, Reader, symbols, marks, steps, changed, rowOff, decodedRow, rows, PageAnswer, answered, refused, decoded}
+use Rattle.concatenated.specs.Marks.{markOf, changedMarks, erasedMarks}
+use Rattle.concatenated.specs.Arrays.{Rows}
 use Rattle.concatenated.specs.OuterCode.{shortOuter}
 
 -- what a level leaves, by what outer decoding gives: its outcome, and the columns after it
 abbrev pub Ended : OuterAnswer → ℕ → List Reading → List (List ℕ) → LevelOut → List (List ℕ) → Type 0
 Ended NoneInReach i rs work out after = out .settled ≡ false
 Ended (Found r) i rs work out after =
-    (out .settled ≡ true) × (out .row ≡ r) × (out .changed ≡ map flag (changed (symbols short i rs) (marks rs) r)) × (out .erased ≡ map flag (marks rs)) × (out .count ≡ steps rs)
+    (out .settled ≡ true) × (out .row ≡ r) × (out .changed ≡ markOf (changed (symbols short i rs) (marks rs) r)) × (out .erased ≡ markOf (marks rs)) × (out .count ≡ steps rs)
     × (after ≡ rowOff short i r work)
 
 unfoldable pub LevelDone : Reader → ℕ → List (List ℕ) → LevelOut → List (List ℕ) → Type 0
 LevelDone read i work out after = Ended (decodedRow short shortOuter i (map (read i) work)) i (map (read i) work) work out after
 
--- the sets of changed and of erased columns of each level, as flags
-abbrev pub changedFlags : List Level → List (List ℕ)
-changedFlags = map (λ l. map flag (l .changed))
-
-abbrev pub erasedFlags : List Level → List (List ℕ)
-erasedFlags = map (λ l. map flag (l .erased))
-
 -- what the levels leave, by what page decoding gives: the outcome, and what is held of each level
-abbrev pub Ends : PageAnswer → ColumnsOutcome → List (List ℕ) → List (List ℕ) → List (List ℕ) → Type 0
-Ends (answered ls n) r held changes erased =
-    (r ≡ Answered n) × (held ≡ rows ls) × (changes ≡ changedFlags ls) × (erased ≡ erasedFlags ls)
-    × Rows held × FourSets changes × FourSets erased
-Ends (refused l) r held changes erased = r ≡ Refused l
+abbrev pub Ends : PageAnswer → ColumnsOutcome → List (List ℕ) → List ℕ → List ℕ → Type 0
+Ends (answered ls n) r held changed erased =
+    (r ≡ Answered n) × (held ≡ rows ls) × (changed ≡ changedMarks ls) × (erased ≡ erasedMarks ls)
+    × Rows held × (length changed ≡ 4) × (length erased ≡ 4)
+Ends (refused l) r held changed erased = r ≡ Refused l
 
-unfoldable pub ColumnsDone : Reader → List (List ℕ) → ColumnsOutcome → List (List ℕ) → List (List ℕ) → List (List ℕ) → Type 0
-ColumnsDone read page r held changes erased = Ends (decoded short shortOuter read page) r held changes erased
+unfoldable pub ColumnsDone : Reader → List (List ℕ) → ColumnsOutcome → List (List ℕ) → List ℕ → List ℕ → Type 0
+ColumnsDone read page r held changed erased = Ends (decoded short shortOuter read page) r held changed erased

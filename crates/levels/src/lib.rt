@@ -8,12 +8,13 @@ ghost use Rattle.concatenated.specs.Arrays.{SoftColumns};
 ghost use Rattle.search.specs.Outcomes.{searchOf};
 ghost use Rattle.levels.specs.Levels.{LevelDone, ColumnsDone};
 use softpage::rows;
+use softpage::sets;
 
-// What a level gives: its row, the flags of its changed and erased columns, its steps; or no word was in reach.
+// What a level gives: its row, the marks of its changed and erased columns, its steps; or no word was in reach.
 pub struct LevelOut {
     row: [u8; 63],
-    changed: [u8; 63],
-    erased: [u8; 63],
+    changed: u64,
+    erased: u64,
     count: u64,
     settled: bool,
 }
@@ -54,20 +55,21 @@ fn decode_level(
     let mut row = [0u8; 63];
     let settled = outer::decode(&symbols, &marks, outer::roots(level), &mut row);
     if settled {
-        let changed = rows::changed_columns(&symbols, &marks, &row);
+        let changed = sets::changed_mark(&symbols, &marks, &row);
+        let erased = sets::mark_of(&marks);
         rows::take_off(&mut *work, level, &row);
         return LevelOut {
             row: row,
             changed: changed,
-            erased: marks,
+            erased: erased,
             count: count,
             settled: true,
         };
     }
     LevelOut {
         row: row,
-        changed: marks,
-        erased: marks,
+        changed: 0,
+        erased: 0,
         count: count,
         settled: false,
     }
@@ -82,12 +84,12 @@ pub fn decode_columns(
     lens: &mut [u8; 2002],
     bits: &mut [u64; 2002],
     held: &mut [[u8; 63]; 4],
-    changes: &mut [[u8; 63]; 4],
-    erased: &mut [[u8; 63]; 4],
+    changed: &mut [u64; 4],
+    erased: &mut [u64; 4],
 ) -> ColumnsOutcome
     requires { ⌜ (limit ≤ 2000) × SoftColumns (now work) × Room (now sums) (now lens) (now bits)
-        × (length (now held) ≡ 4) × (length (now changes) ≡ 4) × (length (now erased) ≡ 4) ⌝ }
-    ensures { λ r. ⌜ ColumnsDone (shortReader (searchOf in_supercodes) limit) (now (work .entry)) r (now (held .exit)) (now (changes .exit)) (now (erased .exit)) ⌝ }
+        × (length (now held) ≡ 4) × (length (now changed) ≡ 4) × (length (now erased) ≡ 4) ⌝ }
+    ensures { λ r. ⌜ ColumnsDone (shortReader (searchOf in_supercodes) limit) (now (work .entry)) r (now (held .exit)) (now (changed .exit)) (now (erased .exit)) ⌝ }
 {
     let mut sum: u64 = 0;
     let mut level: usize = 0;
@@ -107,10 +109,8 @@ pub fn decode_columns(
         }
         let r = out.row;
         held[level] = r;
-        let c = out.changed;
-        changes[level] = c;
-        let e = out.erased;
-        erased[level] = e;
+        changed[level] = out.changed;
+        erased[level] = out.erased;
         sum += out.count;
         level += 1;
     }

@@ -1,5 +1,5 @@
 -- Text put into a buffer, byte after byte and piece after piece. Assumes nothing.
-use mathlib.Core.Path.{_≡_, ap, _∙_, sym}
+use mathlib.Core.Path.{_≡_, refl, ap, _∙_, sym}
 use mathlib.Core.List.{List, [], _∷_, _++_, append-assoc, append-nil}
 use Prim.Native.Nat.{ℕ, suc, _+_, _<_, _≤_}
 use native.Mathlib.Numerals.{add-one}
@@ -32,6 +32,10 @@ copied-all old out piece at i size e done = record {
   reach = omega arith;
   size = size;
 }
+
+-- no text
+pub appended-none : (at : ℕ) (out : List ℕ) → Appended at [] 0 out at out
+appended-none at out = record { bytes = sym (append-nil (take at out)); reach = omega arith; size = refl }
 
 -- one text behind another
 pub then : {at m r a b : ℕ} {s t old mid new : List ℕ} → Appended at s a old m mid → Appended m t b mid r new → Appended at (s ++ t) (a + b) old r new

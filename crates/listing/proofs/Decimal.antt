@@ -1,14 +1,13 @@
 -- The digits that `io::decimal` gives are the decimal number. Assumes nothing.
-use mathlib.Core.Path.{_≡_, refl, ap, _∙_, subst}
-use mathlib.Core.Bool.{Bool, true, false}
+use mathlib.Core.Path.{_≡_, ap, _∙_, subst}
 use mathlib.Core.List.{List, [], _∷_, _++_}
 use Prim.Native.Nat.{ℕ, zero, suc, _-_, _*_, _/_, _%_, _^_, _<_, _≤_}
-use native.Mathlib.Nat.{pow-suc, pow-le-pow-right}
+use native.Mathlib.Nat.{pow-suc}
 use native.Mathlib.Omega.{arith}
-use borrow.Author.Tests.{lt-ltb, le-ltb, ltb-true, ltb-false}
-use lib.Dec.{ltb}
+use borrow.Author.Tests.{lt-ltb, le-ltb}
 use Rattle.io.specs.Digits.{glyph, digits, Fewest}
 use Rattle.listing.specs.Text.{decimalIn}
+use Rattle.listing.proofs.Digits.{at-most}
 
 pow-positive : (k : ℕ) → 1 ≤ 10 ^ k
 pow-positive zero = omega arith
@@ -19,17 +18,7 @@ pow-before k = ap (λ (j : ℕ). 10 ^ j) (omega arith)
 
 -- a number of 64 bits has at most 20
 pub at-most-20 : (k n : ℕ) → n < 2 ^ 64 → Fewest 10 1 n k → k ≤ 20
-at-most-20 k n small few = by-test (ltb 20 k) refl
-  where
-    too-long : 20 < k → ⊥
-    too-long l =
-        let more : 10 ^ 20 ≤ 10 ^ (k - 1) = pow-le-pow-right {n = 10} (omega arith) {i = 20} {j = k - 1} (omega arith) in
-        let least : 10 ^ (k - 1) ≤ n = few .2 (omega arith) in
-        omega (arith, more, least, small)
-
-    by-test : (t : Bool) → ltb 20 k ≡ t → k ≤ 20
-    by-test true e = absurd (too-long (ltb-true 20 k e))
-    by-test false e = ltb-false 20 k e
+at-most-20 k n small few = at-most 10 1 20 k n (omega arith) (omega arith) (omega (arith, small)) few
 
 pub digits-are-decimal : (k f n : ℕ) → k ≤ f → Fewest 10 1 n k → digits 10 k n ≡ decimalIn f n
 unfolding decimalIn

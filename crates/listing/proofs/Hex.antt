@@ -1,13 +1,14 @@
--- Bytes in hexadecimal, as a loop writes them. Assumes nothing.
+-- Bytes in hexadecimal, as a loop writes them, and how many digits of a mark `io::hex` gives. Assumes nothing.
 use mathlib.Core.Path.{_≡_, refl, ap, _∙_, sym}
 use mathlib.Core.List.{List, [], _∷_, _++_, append-assoc, append-nil}
-use Prim.Native.Nat.{ℕ, suc, _+_, _*_, _/_, _%_, _<_}
+use Prim.Native.Nat.{ℕ, suc, _+_, _*_, _/_, _%_, _^_, _<_}
 use native.Mathlib.Numerals.{add-one}
 use native.Mathlib.Omega.{arith}
 use lib.ListN.{length, length-set, getD, set, take}
 use lib.Seq.{take-all, take-suc, take-suc-set}
-use Rattle.io.specs.Digits.{glyph}
+use Rattle.io.specs.Digits.{glyph, Fewest}
 use Rattle.listing.specs.Text.{hexOf, Appended}
+use Rattle.listing.proofs.Digits.{at-most}
 
 hex-snoc : (bs : List ℕ) (b : ℕ) → hexOf (bs ++ (b ∷ [])) ≡ hexOf bs ++ (glyph (b / 16) ∷ glyph (b % 16) ∷ [])
 unfolding hexOf
@@ -44,3 +45,7 @@ hex-all old out bytes at i size e long done =
       reach = omega arith;
       size = size;
     }
+
+-- a mark of 64 bits has at most 16 digits, and no fewer were asked for
+pub sixteen : (k n : ℕ) → n < 2 ^ 64 → Fewest 16 16 n k → k ≡ 16
+sixteen k n small few = omega (arith, few .0, at-most 16 16 16 k n (omega arith) (omega arith) small few)

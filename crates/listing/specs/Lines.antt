@@ -1,16 +1,21 @@
 -- 01: "The station's interface", the lines that the program prints. Assumes nothing.
-use mathlib.Core.List.{List, _++_}
-use Prim.Native.Nat.{ℕ}
+use mathlib.Core.List.{List, [], _++_}
+use Prim.Native.Nat.{ℕ, zero, suc}
 use lib.ListN.{getD}
-use Rattle.listing.specs.Text.{ascii, decimal, hexOf}
+use Rattle.listing.specs.Text.{ascii, decimal, hexOf, hexMark}
 
 -- "`page ok steps 7560`"
 unfoldable pub okLine : ℕ → List ℕ
 okLine steps = ascii "page ok steps " ++ decimal steps ++ ascii "\n"
 
--- "`level 0 changed 0 erased 0`"
-unfoldable pub levelLine : ℕ → ℕ → ℕ → List ℕ
-levelLine level changed erased = ascii "level " ++ decimal level ++ ascii " changed " ++ decimal changed ++ ascii " erased " ++ decimal erased ++ ascii "\n"
+-- a total, and behind it the mark of the columns that it counts
+unfoldable pub columnsText : ℕ → ℕ → List ℕ
+columnsText total mark = decimal total ++ ascii " " ++ hexMark mark
+
+-- 02, point 6: "`level 0 changed 0 0000000000000000 erased 0 0000000000000000`"
+unfoldable pub levelLine : ℕ → ℕ → ℕ → ℕ → ℕ → List ℕ
+levelLine level changed changedMark erased erasedMark =
+    ascii "level " ++ decimal level ++ ascii " changed " ++ columnsText changed changedMark ++ ascii " erased " ++ columnsText erased erasedMark ++ ascii "\n"
 
 -- "`data ` and 00 written 150 times"
 unfoldable pub dataLine : List ℕ → List ℕ
@@ -20,12 +25,12 @@ dataLine bytes = ascii "data " ++ hexOf bytes ++ ascii "\n"
 unfoldable pub refusedLine : ℕ → ℕ → List ℕ
 refusedLine number place = ascii "page refused " ++ decimal number ++ ascii " place " ++ decimal place ++ ascii "\n"
 
--- "the step sum, each level's two totals and the bytes"
-unfoldable pub pageText : ℕ → List ℕ → List ℕ → List ℕ → List ℕ
-pageText steps changed erased bytes =
-    okLine steps
-    ++ levelLine 0 (getD changed 0 0) (getD erased 0 0)
-    ++ levelLine 1 (getD changed 1 0) (getD erased 1 0)
-    ++ levelLine 2 (getD changed 2 0) (getD erased 2 0)
-    ++ levelLine 3 (getD changed 3 0) (getD erased 3 0)
-    ++ dataLine bytes
+-- those of the levels below n, from the lists of their totals and marks
+unfoldable pub levelLines : ℕ → List ℕ → List ℕ → List ℕ → List ℕ → List ℕ
+levelLines zero changed changedMarks erased erasedMarks = []
+levelLines (suc n) changed changedMarks erased erasedMarks =
+    levelLines n changed changedMarks erased erasedMarks ++ levelLine n (getD changed n 0) (getD changedMarks n 0) (getD erased n 0) (getD erasedMarks n 0)
+
+-- "the step sum, each level's two totals and the bytes", and 02's marks
+unfoldable pub pageText : ℕ → List ℕ → List ℕ → List ℕ → List ℕ → List ℕ → List ℕ
+pageText steps changed changedMarks erased erasedMarks bytes = okLine steps ++ levelLines 4 changed changedMarks erased erasedMarks ++ dataLine bytes

@@ -8,7 +8,7 @@ use Prim.Native.String
 use Prim.Native.String.{String}
 use lib.Dec.{eqb, ltb}
 use lib.ListN.{length, take}
-use Rattle.io.specs.Digits.{glyph}
+use Rattle.io.specs.Digits.{glyph, digits}
 
 unfoldable pub ascii : String → List ℕ
 ascii String.[] = []
@@ -27,6 +27,10 @@ decimal n = decimalIn 20 n
 unfoldable pub hexOf : List ℕ → List ℕ
 hexOf [] = []
 hexOf (b ∷ bs) = glyph (b / 16) ∷ glyph (b % 16) ∷ hexOf bs
+
+-- 02, point 6: "16 lower-case hexadecimal digits"
+abbrev pub hexMark : ℕ → List ℕ
+hexMark mark = digits 16 16 mark
 
 -- For the code's contracts: how long the first line of a text is, its newline included
 unfoldable pub lineLength : List ℕ → ℕ

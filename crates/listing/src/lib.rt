@@ -1,10 +1,10 @@
-// Lines of text in a buffer: decimal and hexadecimal numbers, and the lines of a page's listing (01, "The station's interface").
+// Lines of text in a buffer: decimal and hexadecimal numbers, and the lines of a page's listing (01, "The station's interface"; 02, point 6).
 ghost use mathlib.Core.Path.{_≡_};
 ghost use Prim.Native.Nat.{_+_, _≤_, _<_};
 ghost use lib.ListN.{length, drop};
 ghost use Rattle.io.specs.Digits.{glyph};
-ghost use Rattle.listing.specs.Text.{decimal, hexOf, lineLength, Appended};
-ghost use Rattle.listing.specs.Lines.{okLine, levelLine, dataLine, refusedLine};
+ghost use Rattle.listing.specs.Text.{decimal, hexOf, hexMark, lineLength, Appended};
+ghost use Rattle.listing.specs.Lines.{okLine, columnsText, levelLine, levelLines, dataLine, refusedLine};
 
 // ---- text behind the first `at` bytes of a buffer; each gives the place where it ends
 
@@ -52,6 +52,25 @@ fn append_hex(bytes: &[u8], out: &mut [u8], at: usize) -> usize
     at + 300
 }
 
+fn append_mark(mark: u64, out: &mut [u8], at: usize) -> usize
+    requires { ⌜ at + 16 ≤ length (now out) ⌝ }
+    ensures { λ r. ⌜ Appended at (hexMark mark) 16 (now (out .entry)) r (now (out .exit)) ⌝ }
+{
+    let mut digits = [0u8; 16];
+    let k = io::hex(mark, 16, &mut digits);
+    append(&digits[..k], out, at)
+}
+
+// A total, and behind it the mark of the columns that it counts.
+fn append_columns(total: u8, mark: u64, out: &mut [u8], at: usize) -> usize
+    requires { ⌜ at + 37 ≤ length (now out) ⌝ }
+    ensures { λ r. ⌜ Appended at (columnsText total mark) 37 (now (out .entry)) r (now (out .exit)) ⌝ }
+{
+    let counted = append_decimal(total as u64, out, at);
+    let digits = append(b" ", out, counted);
+    append_mark(mark, out, digits)
+}
+
 // ---- the lines
 
 pub fn append_ok(steps: u64, out: &mut [u8], at: usize) -> usize
@@ -63,17 +82,50 @@ pub fn append_ok(steps: u64, out: &mut [u8], at: usize) -> usize
     append(b"\n", out, end)
 }
 
-pub fn append_level(level: u64, changed: u8, erased: u8, out: &mut [u8], at: usize) -> usize
-    requires { ⌜ at + 84 ≤ length (now out) ⌝ }
-    ensures { λ r. ⌜ Appended at (levelLine level changed erased) 84 (now (out .entry)) r (now (out .exit)) ⌝ }
+fn append_level(
+    level: u64,
+    changed: u8,
+    changed_mark: u64,
+    erased: u8,
+    erased_mark: u64,
+    out: &mut [u8],
+    at: usize,
+) -> usize
+    requires { ⌜ at + 118 ≤ length (now out) ⌝ }
+    ensures { λ r. ⌜ Appended at (levelLine level changed «changed_mark» erased «erased_mark») 118 (now (out .entry)) r (now (out .exit)) ⌝ }
 {
     let number = append(b"level ", out, at);
     let numbered = append_decimal(level, out, number);
     let first = append(b" changed ", out, numbered);
-    let counted = append_decimal(changed as u64, out, first);
+    let counted = append_columns(changed, changed_mark, out, first);
     let second = append(b" erased ", out, counted);
-    let end = append_decimal(erased as u64, out, second);
+    let end = append_columns(erased, erased_mark, out, second);
     append(b"\n", out, end)
+}
+
+// The lines of all levels.
+pub fn append_levels(
+    changed: [u8; 4],
+    changed_marks: [u64; 4],
+    erased: [u8; 4],
+    erased_marks: [u64; 4],
+    out: &mut [u8],
+    at: usize,
+) -> usize
+    requires { ⌜ at + 472 ≤ length (now out) ⌝ }
+    ensures { λ r. ⌜ Appended at (levelLines 4 changed «changed_marks» erased «erased_marks») 472 (now (out .entry)) r (now (out .exit)) ⌝ }
+{
+    let mut end = at;
+    let mut level: usize = 0;
+    while level < 4 {
+        let c = changed[level];
+        let cm = changed_marks[level];
+        let e = erased[level];
+        let em = erased_marks[level];
+        end = append_level(level as u64, c, cm, e, em, out, end);
+        level += 1;
+    }
+    end
 }
 
 pub fn append_data(bytes: &[u8], out: &mut [u8], at: usize) -> usize

@@ -4,6 +4,7 @@ use mathlib.Core.List.{List, [], _∷_, map}
 use mathlib.Core.Path.{_≡_, refl, sym, ap, ap₂, _∙_, subst, subst⁻¹}
 use Prim.Native.Nat.{ℕ, zero, suc, _+_, _≤_, _<_}
 use native.Mathlib.Omega.{arith}
+use lib.Count.{ones}
 use lib.ListN.{length, length-append, getD, take, drop, take-append-drop}
 use lib.Seq.{length-take-le}
 use Rattle.column.specs.Shape.{short}
@@ -14,11 +15,11 @@ use Rattle.concatenated.specs.SoftPage.{Soft, softColumns}
 use Rattle.concatenated.specs.Data.{dataBytes}
 use Rattle.concatenated.specs.Decode.{Reader, Level, rows, PageAnswer, answered, refused, decoded}
 use Rattle.concatenated.specs.Written.{rowsData, bytesOfRows}
-use Rattle.concatenated.specs.Flags.{flag, isOne}
-use Rattle.concatenated.specs.Arrays.{SoftColumns, Rows, FourSets}
+use Rattle.concatenated.specs.Marks.{markOf, changedMarks, erasedMarks}
+use Rattle.concatenated.specs.Arrays.{SoftColumns, Rows}
 use Rattle.concatenated.specs.OuterCode.{shortOuter}
-use Rattle.levels.specs.Levels.{changedFlags, erasedFlags, Ends, ColumnsDone}
-use Rattle.page.specs.Outcomes.{refusedPage, outcomeOf, dataAfter}
+use Rattle.levels.specs.Levels.{Ends, ColumnsDone}
+use Rattle.page.specs.Outcomes.{changedTotals, erasedTotals, refusedPage, outcomeOf, dataAfter}
 use Rattle.levels.specs.declared.ColumnsOutcome.{ColumnsOutcome}
 use Rattle.levels.specs.declared.ColumnsOutcome.the-variants.{Answered, Refused}
 use Rattle.page.specs.declared.PageOutcome.{PageOutcome}
@@ -26,7 +27,7 @@ use Rattle.concatenated.proofs.Lists.{all-append, all-of-append}
 use Rattle.concatenated.proofs.Digits.{Below, below-is-word, word-is-below}
 use Rattle.concatenated.proofs.SoftPages.{as-many-columns, columns-are-soft}
 use Rattle.concatenated.proofs.Short.{short-page-numbers}
-use Rattle.concatenated.proofs.OuterJoint.{flags-back}
+use Rattle.concatenated.proofs.Marks.{ones-of-marks}
 
 -- the columns of a soft page, as the code asks for them
 pub soft-columns : (soft : List ℕ) (columns : List (List ℕ)) → length soft ≡ 1890 → Soft soft → columns ≡ softColumns shortPage soft → SoftColumns columns
@@ -34,33 +35,33 @@ soft-columns soft columns long h e =
     subst⁻¹ SoftColumns e (record { many = as-many-columns shortPage soft; soft = columns-are-soft shortPage soft long h })
 
 -- what the levels left of an answer
-pub record AnsweredBy (d : PageAnswer) (n : ℕ) (held changes erased : List (List ℕ)) : Type 0 where
+pub record AnsweredBy (d : PageAnswer) (n : ℕ) (held : List (List ℕ)) (changed erased : List ℕ) : Type 0 where
   pub levels : List Level
   pub is : d ≡ answered levels n
   pub rows-are : held ≡ rows levels
-  pub changes-are : changes ≡ changedFlags levels
-  pub erased-are : erased ≡ erasedFlags levels
+  pub changed-are : changed ≡ changedMarks levels
+  pub erased-are : erased ≡ erasedMarks levels
   pub good : Rows held
-  pub changes-wide : FourSets changes
-  pub erased-wide : FourSets erased
+  pub four-changed : length changed ≡ 4
+  pub four-erased : length erased ≡ 4
 
-module _ (read : Reader) (page held changes erased : List (List ℕ)) (r : ColumnsOutcome) (done : ColumnsDone read page r held changes erased) where
-  pub is-answered : (n : ℕ) → r ≡ Answered n → AnsweredBy (decoded short shortOuter read page) n held changes erased
+module _ (read : Reader) (page held : List (List ℕ)) (changed erased : List ℕ) (r : ColumnsOutcome) (done : ColumnsDone read page r held changed erased) where
+  pub is-answered : (n : ℕ) → r ≡ Answered n → AnsweredBy (decoded short shortOuter read page) n held changed erased
   unfolding ColumnsDone
   is-answered n e = go (decoded short shortOuter read page) refl done
     where
-      go : (d : PageAnswer) → decoded short shortOuter read page ≡ d → Ends d r held changes erased → AnsweredBy (decoded short shortOuter read page) n held changes erased
+      go : (d : PageAnswer) → decoded short shortOuter read page ≡ d → Ends d r held changed erased → AnsweredBy (decoded short shortOuter read page) n held changed erased
       go (answered ls m) ed h =
           let same : m ≡ n = cc (sym (h .0) ∙ e) in
           record {
             levels = ls;
             is = ed ∙ ap (answered ls) same;
             rows-are = h .1;
-            changes-are = h .2;
+            changed-are = h .2;
             erased-are = h .3;
             good = h .4;
-            changes-wide = h .5;
-            erased-wide = h .6;
+            four-changed = h .5;
+            four-erased = h .6;
           }
       go (refused l) ed h = let z : Refused l ≡ Answered n = sym h ∙ e in let y : _≡_ {A = ℕ} 0 1 = cc z in absurd (omega arith)
 
@@ -68,7 +69,7 @@ module _ (read : Reader) (page held changes erased : List (List ℕ)) (r : Colum
   unfolding ColumnsDone
   is-refused l e = go (decoded short shortOuter read page) refl done
     where
-      go : (d : PageAnswer) → decoded short shortOuter read page ≡ d → Ends d r held changes erased → decoded short shortOuter read page ≡ refused l
+      go : (d : PageAnswer) → decoded short shortOuter read page ≡ d → Ends d r held changed erased → decoded short shortOuter read page ≡ refused l
       go (answered ls m) ed h = let z : Answered m ≡ Refused l = sym (h .0) ∙ e in let y : _≡_ {A = ℕ} 0 1 = cc z in absurd (omega arith)
       go (refused k) ed h = let same : k ≡ l = cc (sym h ∙ e) in ed ∙ ap refused same
 
@@ -80,11 +81,6 @@ refusal-is-10 l = refl
 pub refusal-keeps-the-data : (old : List ℕ) (l : ℕ) → old ≡ dataAfter old (refused l)
 unfolding dataAfter
 refusal-keeps-the-data old l = refl
-
--- the size of each set, read from the flags
-pub totals-are : (f : Level → List Bool) (ls : List Level) → map (λ (s : List ℕ). total (map isOne s)) (map (λ l. map flag (f l)) ls) ≡ map (λ l. total (f l)) ls
-totals-are f [] = refl
-totals-are f (l ∷ ls) = ap₂ (λ (x : ℕ) (t : List ℕ). x ∷ t) (ap total (flags-back (f l))) (totals-are f ls)
 
 -- the data in front of rows: as many as they should be, and symbols
 rows-data-long : (held : List (List ℕ)) → Rows held → (n : ℕ) → n ≤ 4 → length (rowsData shortPage held n) ≡ dataBefore shortPage n
@@ -109,18 +105,19 @@ rows-data-is-a-word held symbols good e =
     (subst (λ (n : ℕ). WordOf 64 n (rowsData shortPage held 4)) (rows-data-long held good 4 (omega arith) ∙ short-page-numbers .5) (below-is-word 64 (rowsData shortPage held 4) (rows-data-below held good 4 (omega arith))))
 
 -- the outcome and the data of an answer
-module _ (d : PageAnswer) (n : ℕ) (held changes erased : List (List ℕ)) (a : AnsweredBy d n held changes erased) where
-  pub answered-outcome : (cs es : List ℕ) → cs ≡ map (λ (s : List ℕ). total (map isOne s)) changes → es ≡ map (λ (s : List ℕ). total (map isOne s)) erased
-      → record { number = 0; place = 0; steps = n; changed = cs; erased = es } ≡ outcomeOf d
+module _ (d : PageAnswer) (n : ℕ) (held : List (List ℕ)) (changed erased : List ℕ) (a : AnsweredBy d n held changed erased) where
+  pub answered-outcome : (cs es : List ℕ) → cs ≡ map ones changed → es ≡ map ones erased
+      → record { number = 0; place = 0; report = record { steps = n; changed = cs; erased = es; «changed_marks» = changed; «erased_marks» = erased } } ≡ outcomeOf d
   unfolding outcomeOf
   answered-outcome cs es ec ee =
-      ap₂ (λ (x y : List ℕ). the-outcome x y)
-      (ec ∙ ap (map (λ (s : List ℕ). total (map isOne s))) (a .changes-are) ∙ totals-are (λ l. l .changed) (a .levels))
-      (ee ∙ ap (map (λ (s : List ℕ). total (map isOne s))) (a .erased-are) ∙ totals-are (λ l. l .erased) (a .levels))
+      ap₂ (λ (x y : List ℕ). the-outcome x y changed erased)
+      (ec ∙ ap (map ones) (a .changed-are) ∙ ones-of-marks (λ l. l .changed) (a .levels))
+      (ee ∙ ap (map ones) (a .erased-are) ∙ ones-of-marks (λ l. l .erased) (a .levels))
+      ∙ ap₂ (the-outcome (changedTotals (a .levels)) (erasedTotals (a .levels))) (a .changed-are) (a .erased-are)
       ∙ ap outcomeOf (sym (a .is))
     where
-      the-outcome : List ℕ → List ℕ → PageOutcome
-      the-outcome x y = record { number = 0; place = 0; steps = n; changed = x; erased = y }
+      the-outcome : List ℕ → List ℕ → List ℕ → List ℕ → PageOutcome
+      the-outcome cs es changed erased = record { number = 0; place = 0; report = record { steps = n; changed = cs; erased = es; «changed_marks» = changed; «erased_marks» = erased } }
 
   pub answered-data : (old symbols new : List ℕ) → symbols ≡ rowsData shortPage held 4 → new ≡ dataBytes shortPage symbols → new ≡ dataAfter old d
   unfolding dataAfter bytesOfRows

@@ -1,10 +1,13 @@
 -- 01: what page decoding reports, as the code gives it, and the data after it. Assumes nothing.
-use mathlib.Core.List.{List, [], _∷_, map}
+use mathlib.Core.List.{List, map}
 use Prim.Native.Nat.{ℕ}
+use lib.ListN.{replicate}
 use Rattle.page.specs.declared.PageOutcome.{PageOutcome}
+use Rattle.page.specs.declared.Report.{Report}
 use Rattle.concatenated.specs.Lists.{total}
 use Rattle.concatenated.specs.Format.{shortPage}
 use Rattle.concatenated.specs.Decode.{Level, rows, PageAnswer, answered, refused}
+use Rattle.concatenated.specs.Marks.{changedMarks, erasedMarks}
 use Rattle.concatenated.specs.Written.{bytesOfRows}
 
 -- how many columns each level changed, and how many it erased
@@ -14,13 +17,27 @@ changedTotals = map (λ l. total (l .changed))
 abbrev pub erasedTotals : List Level → List ℕ
 erasedTotals = map (λ l. total (l .erased))
 
--- what a refusal gives: its number and place; no steps and no columns
-abbrev pub refusedPage : ℕ → ℕ → PageOutcome
-refusedPage n p = record { number = n; place = p; steps = 0; changed = 0 ∷ 0 ∷ 0 ∷ 0 ∷ []; erased = 0 ∷ 0 ∷ 0 ∷ 0 ∷ [] }
+-- a page answer's report: "the steps", and of each level the changed and erased columns, by their totals and their marks
+abbrev pub reportOf : List Level → ℕ → Report
+reportOf ls n =
+    record { steps = n; changed = changedTotals ls; erased = erasedTotals ls; «changed_marks» = changedMarks ls; «erased_marks» = erasedMarks ls }
 
--- number 0 with the steps and the totals; or 01's number 10, "Place: the level in a page decode"
+-- a report of n steps, and no column changed or erased at any level
+abbrev pub noColumns : ℕ → Report
+noColumns n =
+    record { steps = n; changed = replicate 4 0; erased = replicate 4 0; «changed_marks» = replicate 4 0; «erased_marks» = replicate 4 0 }
+
+-- the report of a refusal: no steps either
+abbrev pub refusalReport : Report
+refusalReport = noColumns 0
+
+-- what a refusal gives: its number and place, and that report
+abbrev pub refusedPage : ℕ → ℕ → PageOutcome
+refusedPage n p = record { number = n; place = p; report = refusalReport }
+
+-- number 0 with the report; or 01's number 10, "Place: the level in a page decode"
 unfoldable pub outcomeOf : PageAnswer → PageOutcome
-outcomeOf (answered ls n) = record { number = 0; place = 0; steps = n; changed = changedTotals ls; erased = erasedTotals ls }
+outcomeOf (answered ls n) = record { number = 0; place = 0; report = reportOf ls n }
 outcomeOf (refused l) = refusedPage 10 l
 
 -- the bytes of the answer; after a refusal the old ones

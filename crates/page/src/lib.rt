@@ -16,15 +16,22 @@ use coding::data;
 use coding::writing;
 use levels::ColumnsOutcome;
 use softpage::look;
-use softpage::totals;
+use softpage::sets;
 
-// What page decoding gives: number 0 with the steps and how many columns each level changed and erased; or number 10 with the level as the place.
-pub struct PageOutcome {
-    pub number: u64,
-    pub place: u64,
+// What page decoding reports: the steps, and of each level how many columns its row changed and how many were erased, and which: marks, column j at bit j.
+pub struct Report {
     pub steps: u64,
     pub changed: [u8; 4],
     pub erased: [u8; 4],
+    pub changed_marks: [u64; 4],
+    pub erased_marks: [u64; 4],
+}
+
+// What page decoding gives: number 0 with the report; or number 10 with the level as the place.
+pub struct PageOutcome {
+    pub number: u64,
+    pub place: u64,
+    pub report: Report,
 }
 
 // What a refusal gives: its number and place; no steps and no columns.
@@ -34,9 +41,13 @@ pub fn refused(number: u64, place: u64) -> PageOutcome
     PageOutcome {
         number: number,
         place: place,
-        steps: 0,
-        changed: [0; 4],
-        erased: [0; 4],
+        report: Report {
+            steps: 0,
+            changed: [0; 4],
+            erased: [0; 4],
+            changed_marks: [0; 4],
+            erased_marks: [0; 4],
+        },
     }
 }
 
@@ -82,8 +93,8 @@ pub fn decode_page(soft: &[u8], limit: u64, in_supercodes: bool, data: &mut [u8]
     let mut lens = [0u8; 2002];
     let mut bits = [0u64; 2002];
     let mut held = [[0u8; 63]; 4];
-    let mut changes = [[0u8; 63]; 4];
-    let mut erased = [[0u8; 63]; 4];
+    let mut changed = [0u64; 4];
+    let mut erased = [0u64; 4];
     let outcome = levels::decode_columns(
         &mut work,
         limit,
@@ -92,7 +103,7 @@ pub fn decode_page(soft: &[u8], limit: u64, in_supercodes: bool, data: &mut [u8]
         &mut lens,
         &mut bits,
         &mut held,
-        &mut changes,
+        &mut changed,
         &mut erased,
     );
     match outcome {
@@ -103,9 +114,13 @@ pub fn decode_page(soft: &[u8], limit: u64, in_supercodes: bool, data: &mut [u8]
             PageOutcome {
                 number: 0,
                 place: 0,
-                steps: steps,
-                changed: totals::totals(&changes),
-                erased: totals::totals(&erased),
+                report: Report {
+                    steps: steps,
+                    changed: sets::totals(&changed),
+                    erased: sets::totals(&erased),
+                    changed_marks: changed,
+                    erased_marks: erased,
+                },
             }
         }
         ColumnsOutcome::Refused(level) => refused(10, level),

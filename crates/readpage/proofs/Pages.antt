@@ -11,6 +11,7 @@ use Rattle.trellis.specs.Demand.{Search}
 use Rattle.concatenated.specs.Decode.{PageAnswer, answered, refused}
 use Rattle.page.specs.Outcomes.{outcomeOf, dataAfter}
 use Rattle.page.specs.declared.PageOutcome.{PageOutcome}
+use Rattle.page.specs.declared.Report.{Report}
 use Rattle.questions.specs.Questions.{firstAbove}
 use Rattle.store_pages.specs.Pages.{decodedPage, PageDecoded}
 use Rattle.listing.specs.Lines.{refusedLine, pageText}
@@ -21,8 +22,12 @@ unfolding outcomeOf decodedText
 refused-text (answered ls n) some = absurd (some refl)
 refused-text (refused l) some = refl
 
+-- the lines of an answered page's report and bytes
+abbrev pub reportText : Report → List ℕ → List ℕ
+reportText r bytes = pageText (r .steps) (r .changed) (r .«changed_marks») (r .erased) (r .«erased_marks») bytes
+
 answered-text : (old : List ℕ) (d : PageAnswer) → outcomeOf d .number ≡ 0
-    → pageText (outcomeOf d .steps) (outcomeOf d .changed) (outcomeOf d .erased) (dataAfter old d) ≡ decodedText d
+    → reportText (outcomeOf d .report) (dataAfter old d) ≡ decodedText d
 unfolding outcomeOf dataAfter decodedText
 answered-text old (answered ls n) none = refl
 answered-text old (refused l) none = absurd (omega (arith, none))
@@ -41,8 +46,8 @@ module _ (s : Search) (soft old new : List ℕ) (r : PageOutcome) (decoded : Pag
       ap (λ (o : PageOutcome). refusedLine (o .number) (o .place)) outcome
       ∙ refused-text (decodedPage s soft 500) (λ none. some (ap (λ (o : PageOutcome). o .number) outcome ∙ none))
 
-  pub text-of-answered : r .number ≡ 0 → pageText (r .steps) (r .changed) (r .erased) new ≡ decodedText (decodedPage s soft 500)
+  pub text-of-answered : r .number ≡ 0 → reportText (r .report) new ≡ decodedText (decodedPage s soft 500)
   text-of-answered none =
-      ap (λ (o : PageOutcome). pageText (o .steps) (o .changed) (o .erased) new) outcome
-      ∙ ap (λ (l : List ℕ). pageText (outcomeOf (decodedPage s soft 500) .steps) (outcomeOf (decodedPage s soft 500) .changed) (outcomeOf (decodedPage s soft 500) .erased) l) bytes
+      ap (λ (o : PageOutcome). reportText (o .report) new) outcome
+      ∙ ap (reportText (outcomeOf (decodedPage s soft 500) .report)) bytes
       ∙ answered-text old (decodedPage s soft 500) (ap (λ (o : PageOutcome). o .number) (sym outcome) ∙ none)

@@ -7,6 +7,7 @@ use Rattle.trellis.specs.Demand.{supercode}
 use Rattle.concatenated.specs.Format.{shortPage}
 use Rattle.concatenated.specs.Decode.{rows, PageAnswer, answered, refused}
 use Rattle.concatenated.specs.Written.{bytesOfRows}
+use Rattle.concatenated.specs.Marks.{changedMarks, erasedMarks}
 use Rattle.page.specs.Outcomes.{changedTotals, erasedTotals}
 use Rattle.store_dumps.specs.Dumps.{readAnswer}
 use Rattle.store_pages.specs.Pages.{decodedPage}
@@ -16,7 +17,7 @@ use Rattle.listing.specs.Lines.{refusedLine, pageText}
 
 -- of page decoding: 10 has the level as its place
 unfoldable pub decodedText : PageAnswer → List ℕ
-decodedText (answered ls n) = pageText n (changedTotals ls) (erasedTotals ls) (bytesOfRows shortPage (rows ls))
+decodedText (answered ls n) = pageText n (changedTotals ls) (changedMarks ls) (erasedTotals ls) (erasedMarks ls) (bytesOfRows shortPage (rows ls))
 decodedText (refused l) = refusedLine 10 l
 
 -- of reading the dump, and what follows where it is not refused

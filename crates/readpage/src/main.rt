@@ -18,27 +18,27 @@ use questions::Outcome;
 
 // The lines of a soft page, each value 0..7.
 fn page_text(soft: &[u8], out: &mut [u8]) -> usize
-    requires { ⌜ (length (now soft) ≡ 1890) × (leb 1890 (firstAbove (now soft) 7) ≡ true) × (677 ≤ length (now out)) ⌝ }
-    ensures { λ r. ⌜ Appended 0 (decodedText (decodedPage supercode (now (soft .entry)) 500)) 677 (now (out .entry)) r (now (out .exit)) ⌝ }
+    requires { ⌜ (length (now soft) ≡ 1890) × (leb 1890 (firstAbove (now soft) 7) ≡ true) × (813 ≤ length (now out)) ⌝ }
+    ensures { λ r. ⌜ Appended 0 (decodedText (decodedPage supercode (now (soft .entry)) 500)) 813 (now (out .entry)) r (now (out .exit)) ⌝ }
 {
     let mut data = [0u8; 150];
     let page = store_pages::decode_page(soft, 500, &mut data);
     if page.number != 0 {
         return listing::append_refused(page.number, page.place, out, 0);
     }
-    let changed = page.changed;
-    let erased = page.erased;
-    let levels = listing::append_ok(page.steps, out, 0);
-    let level1 = listing::append_level(0, changed[0], erased[0], out, levels);
-    let level2 = listing::append_level(1, changed[1], erased[1], out, level1);
-    let level3 = listing::append_level(2, changed[2], erased[2], out, level2);
-    let bytes = listing::append_level(3, changed[3], erased[3], out, level3);
+    let report = page.report;
+    let changed = report.changed;
+    let changed_marks = report.changed_marks;
+    let erased = report.erased;
+    let erased_marks = report.erased_marks;
+    let levels = listing::append_ok(report.steps, out, 0);
+    let bytes = listing::append_levels(changed, changed_marks, erased, erased_marks, out, levels);
     listing::append_data(&data, out, bytes)
 }
 
 // The whole output for the input whose first bytes were read: n of them stand in `input`, which has room for more than a dump, so that a longer input shows.
 fn output_of(input: &[u8], n: usize, out: &mut [u8]) -> usize
-    requires { ⌜ (2048 < length (now input)) × Counts n (now input) × (677 ≤ length (now out)) ⌝ }
+    requires { ⌜ (2048 < length (now input)) × Counts n (now input) × (813 ≤ length (now out)) ⌝ }
     ensures { λ r. ⌜ Counts r (now (out .exit)) ⌝ }
     ensures { λ r. ⌜ PrintedFor (now (input .entry)) n (take r (now (out .exit))) ⌝ }
 {
@@ -65,7 +65,7 @@ fn write_output(input: &[u8], n: usize, text: &[u8])
 fn main() {
     let mut input = [0u8; 2049];
     let n = io::read_full(STDIN_FILENO, &mut input);
-    let mut text = [0u8; 677];
+    let mut text = [0u8; 813];
     let m = output_of(&input, n, &mut text);
     write_output(&input, n, &text[..m]);
 }

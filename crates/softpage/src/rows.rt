@@ -1,5 +1,4 @@
-// What a decoded row does to the columns: its level words are taken off, and the columns that it altered are told.
-ghost use mathlib.Core.List.{map};
+// What a decoded row does to the columns: its level words are taken off.
 ghost use mathlib.Core.Path.{_≡_};
 ghost use Prim.Native.Nat.{_-_, _<_, _≤_};
 ghost use lib.ListN.{length};
@@ -8,8 +7,7 @@ ghost use Rattle.reedsolomon.specs.Search.{WordOf};
 ghost use Rattle.packing.specs.Packing.{digit};
 ghost use Rattle.concatenated.specs.Soft.{takenOffBy};
 ghost use Rattle.concatenated.specs.SoftPage.{Soft, columnOff};
-ghost use Rattle.concatenated.specs.Decode.{rowOff, isChanged, changed};
-ghost use Rattle.concatenated.specs.Flags.{flag, isOne};
+ghost use Rattle.concatenated.specs.Decode.{rowOff};
 ghost use Rattle.concatenated.specs.Arrays.{SoftColumns};
 
 // The soft value at a place with a word's bit there taken off: 7 - q is q with its three bits exchanged, and no branch is on the word's bit.
@@ -49,31 +47,4 @@ pub fn take_off(work: &mut [[u8; 30]; 63], level: usize, row: &[u8; 63])
         work[j] = column_off(w, column);
         j += 1;
     }
-}
-
-// Whether a row altered the symbol of an unerased column.
-fn altered(x: u8, m: u8, y: u8) -> u8
-    ensures { λ r. ⌜ r ≡ flag (isChanged (isOne m) x y) ⌝ }
-{
-    if m == 1 {
-        return 0;
-    }
-    if x == y {
-        return 0;
-    }
-    1
-}
-
-// The flags of the changed columns: unerased ones whose symbol the row altered.
-pub fn changed_columns(symbols: &[u8; 63], marks: &[u8; 63], row: &[u8; 63]) -> [u8; 63]
-    requires { ⌜ (length (now symbols) ≡ 63) × (length (now marks) ≡ 63) × (length (now row) ≡ 63) ⌝ }
-    ensures { λ r. ⌜ r ≡ map flag (changed (now (symbols .entry)) (map isOne (now (marks .entry))) (now (row .entry))) ⌝ }
-{
-    let mut out = [0u8; 63];
-    let mut j: usize = 0;
-    while j < 63 {
-        out[j] = altered(symbols[j], marks[j], row[j]);
-        j += 1;
-    }
-    out
 }

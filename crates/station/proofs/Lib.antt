@@ -1,3 +1,6 @@
 pub mod Places
 pub mod PageReturns
 pub mod Steps
+pub mod Bytes
+pub mod Marking
+pub mod Marks

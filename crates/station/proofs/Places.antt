@@ -1,11 +1,9 @@
 -- The numbers and places of the answers are small, so that both fit in what an entry returns. Assumes nothing.
-use mathlib.Core.Bool.{Bool, true, false}
 use mathlib.Core.List.{List, map}
-use mathlib.Core.Path.{_≡_, refl}
+use mathlib.Core.Path.{_≡_}
 use Prim.Native.Nat.{ℕ, zero, suc, _/_, _%_, _≤_, _<_}
 use native.Mathlib.Omega.{arith}
-use borrow.Author.Tests.{leb-false}
-use lib.Dec.{eqb, leb}
+use lib.Dec.{eqb}
 use lib.ListN.{length}
 use Rattle.dump.specs.Block.{fixedRight, checkRight}
 use Rattle.dump.specs.Dump.{blockAt, softOf}
@@ -16,9 +14,11 @@ use Rattle.concatenated.specs.Outer.{RowDecoder}
 use Rattle.concatenated.specs.Decode.{Reader, Reading, Level, State, going, stopped, decodedRow, settle, onward, run, outcome, decoded}
 use Rattle.page.specs.Outcomes.{refusedPage, outcomeOf}
 use Rattle.page.specs.declared.PageOutcome.{PageOutcome}
-use Rattle.questions.specs.Questions.{ask, firstAbove}
+use Rattle.questions.specs.Questions.{firstAbove}
 use Rattle.questions.specs.Outcome.{number, place}
+use Rattle.questions.proofs.EitherWay.{either, first-bad}
 use Rattle.store_pages.specs.Pages.{encodePageAnswer, askPage, decodedPage}
+use Rattle.store_pages.proofs.Asked.{every-way}
 use Rattle.store_dumps.specs.Dumps.{askFixed, askCheck, askBlock, readAnswer}
 use Rattle.store_dumps.proofs.BlockByBlock.{each-keeps}
 use Rattle.questions.specs.declared.Outcome.{Outcome}
@@ -37,19 +37,6 @@ SmallPage o = Small (o .number) (o .place)
 -- so the number and the place come back from what an entry returns
 pub number-and-place-come-back : (n p : ℕ) → Small n p → (returned n p % 256 ≡ n) × (returned n p / 256 ≡ p)
 number-and-place-come-back n p small = (omega (arith, small .0), omega (arith, small .0))
-
--- whatever the answer to a question
-pub either : {A : Type 0} (P : A → Type 0) (t : Bool) (refusal next : A) → P refusal → P next → P (ask t refusal next)
-either P true refusal next r n = n
-either P false refusal next r n = r
-
--- question 5 is refused with a place below the count of values
-first-bad : {A : Type 0} (P : A → Type 0) (count first : ℕ) (refusal next : A) → (first < count → P refusal) → P next → P (ask (leb count first) refusal next)
-first-bad P count first refusal next r n = go (leb count first) refl
-  where
-    go : (t : Bool) → leb count first ≡ t → P (ask t refusal next)
-    go true e = n
-    go false e = r (leb-false count first e)
 
 pub encode-small : (bytes out : List ℕ) → SmallOutcome (encodePageAnswer bytes out)
 encode-small bytes out =
@@ -100,14 +87,5 @@ module _ (S : Shape) (outer : RowDecoder) (read : Reader) (page : List (List ℕ
   unfolding decoded
   decoded-small few = outcome-small (levels S) few (run S outer read page (levels S)) (run-below (levels S))
 
--- whatever page decoding answers to its questions
-pub every-way : {A : Type 0} (P : A → Type 0) (soft : List ℕ) (limit : ℕ) (out : List ℕ) (refusal : ℕ → ℕ → A) (next : A) → ((n p : ℕ) → Small n p → P (refusal n p)) → P next → P (askPage soft limit out refusal next)
-every-way P soft limit out refusal next r n =
-    either P (eqb (length soft) 1890) _ _ (r 1 0 (omega arith, omega arith))
-    (either P (eqb (length out) 150) _ _ (r 2 0 (omega arith, omega arith))
-    (either P (leb 1 limit) _ _ (r 4 0 (omega arith, omega arith))
-    (either P (leb limit 2000) _ _ (r 4 0 (omega arith, omega arith))
-    (first-bad P 1890 (firstAbove soft 7) _ _ (λ h. r 5 (firstAbove soft 7) (omega arith, omega arith)) n))))
-
 pub page-small : (s : Search) (soft : List ℕ) (limit : ℕ) (out : List ℕ) → SmallPage (askPage soft limit out refusedPage (outcomeOf (decodedPage s soft limit)))
-page-small s soft limit out = every-way SmallPage soft limit out refusedPage (outcomeOf (decodedPage s soft limit)) (λ n p small. small) (decoded-small _ _ _ _ (omega arith))
+page-small s soft limit out = every-way soft limit out SmallPage refusedPage (outcomeOf (decodedPage s soft limit)) (λ n p few near. (few, near)) (decoded-small _ _ _ _ (omega arith))

@@ -1,10 +1,11 @@
 -- The steps of a page fit in the report's four bytes, so that the report gives them back. Assumes nothing.
-use mathlib.Core.List.{List, [], _∷_, map}
-use mathlib.Core.Path.{_≡_}
-use Prim.Native.Nat.{ℕ, zero, suc, _+_, _*_, _/_, _%_, _≤_, _<_}
+use mathlib.Core.List.{List, [], _∷_, map, append-assoc}
+use mathlib.Core.Path.{_≡_, ap, _∙_}
+use Prim.Native.Nat.{ℕ, zero, suc, _+_, _*_, _≤_, _<_}
 use native.Mathlib.Omega.{arith}
 use lib.Dec.{eqb}
-use lib.ListN.{length}
+use lib.ListN.{length, take}
+use lib.Seq.{take-at}
 use Rattle.column.specs.Shape.{Shape, levels, short}
 use Rattle.trellis.specs.Demand.{supercode}
 use Rattle.concatenated.specs.Lists.{sum}
@@ -19,10 +20,12 @@ use Rattle.page.specs.Outcomes.{refusedPage, outcomeOf}
 use Rattle.page.specs.declared.PageOutcome.{PageOutcome}
 use Rattle.readings.proofs.RowReading.{count-within-the-limit}
 use Rattle.concatenated.proofs.SoftPages.{as-many-columns}
+use Rattle.questions.proofs.EitherWay.{either}
 use Rattle.store_pages.specs.Pages.{decodedPage}
-use Rattle.station.specs.Report.{reportOf, stepsIn}
+use Rattle.store_pages.proofs.Asked.{every-way}
+use Rattle.station.specs.Report.{bytesOf, totalBytes, numberIn, reportOf, stepsIn}
+use Rattle.station.proofs.Bytes.{bytes-length, number-comes-back}
 use Rattle.station.specs.PageReturned.{limit, decodeAnswer}
-use Rattle.station.proofs.Places.{either, every-way}
 
 row-off-within : (S : Shape) (i : ℕ) (r : List ℕ) (cs : List (List ℕ)) → length (rowOff S i r cs) ≤ length cs
 unfolding rowOff
@@ -56,29 +59,29 @@ module _ (S : Shape) (outer : RowDecoder) (read : Reader) (few : (i : ℕ) (c : 
   run-within zero h = (wide, omega arith)
   run-within (suc i) h = onward-within i h (run S outer read page i) (run-within i (omega arith))
 
-  outcome-within : (k : ℕ) → k ≤ 4 → (x : State) → Within k x → outcomeOf (outcome x) .steps ≤ 126000
+  outcome-within : (k : ℕ) → k ≤ 4 → (x : State) → Within k x → outcomeOf (outcome x) .report .steps ≤ 126000
   unfolding outcome outcomeOf
   outcome-within k h (going cs ls n) w = omega (arith, w .1)
   outcome-within k h (stopped l) w = omega arith
 
-  decoded-within : levels S ≤ 4 → outcomeOf (decoded S outer read page) .steps ≤ 126000
+  decoded-within : levels S ≤ 4 → outcomeOf (decoded S outer read page) .report .steps ≤ 126000
   unfolding decoded
   decoded-within h = outcome-within (levels S) h (run S outer read page (levels S)) (run-within (levels S) (omega arith))
 
 abbrev pub FewSteps : PageOutcome → Type 0
-FewSteps o = o .steps ≤ 126000
+FewSteps o = o .report .steps ≤ 126000
 
 -- 01: "all counts summed, a spent column counting the limit": 63 columns at four levels, 500 each
 pub steps-are-few : (soft bytes report : List ℕ) → FewSteps (decodeAnswer soft bytes report)
 steps-are-few soft bytes report =
     either FewSteps (eqb (length soft) 1890) _ _ (omega arith)
-    (either FewSteps (eqb (length report) 12) _ _ (omega arith)
-    (every-way FewSteps soft limit bytes refusedPage (outcomeOf (decodedPage supercode soft limit)) (λ n p small. omega arith)
+    (either FewSteps (eqb (length report) 76) _ _ (omega arith)
+    (every-way soft limit bytes FewSteps refusedPage (outcomeOf (decodedPage supercode soft limit)) (λ n p few near. omega arith)
     (decoded-within short shortOuter (shortReader supercode limit) (λ i c h. count-within-the-limit supercode limit i h c) (softColumns shortPage soft) (omega (arith, as-many-columns shortPage soft)) (omega arith))))
 
-four-digits : (n : ℕ) → n ≤ 126000 → ((n / 16777216 % 256 * 256 + n / 65536 % 256) * 256 + n / 256 % 256) * 256 + n % 256 ≡ n
-four-digits n h = omega arith
-
 -- the report's first four bytes are the steps
-pub report-holds-the-steps : (soft bytes report : List ℕ) → stepsIn (reportOf (decodeAnswer soft bytes report)) ≡ decodeAnswer soft bytes report .steps
-report-holds-the-steps soft bytes report = four-digits (decodeAnswer soft bytes report .steps) (steps-are-few soft bytes report)
+pub report-holds-the-steps : (soft bytes report : List ℕ) → stepsIn (reportOf (decodeAnswer soft bytes report .report)) ≡ decodeAnswer soft bytes report .report .steps
+report-holds-the-steps soft bytes report =
+    let r = decodeAnswer soft bytes report .report in
+    ap (numberIn 0) (ap (take 4) (append-assoc (bytesOf 4 (r .steps)) (totalBytes (r .changed) (r .erased)) _) ∙ take-at (bytesOf 4 (r .steps)) _ 4 (bytes-length 4 (r .steps)))
+    ∙ number-comes-back 4 (r .steps) (omega (arith, steps-are-few soft bytes report))

@@ -16,11 +16,11 @@ use Rattle.station.specs.Report.{reportOf}
 abbrev pub limit : ℕ
 limit = 500
 
--- 1: 1,890 values; 2: 12 bytes of report; then the questions of page decoding, 150 bytes of data among them
+-- 1: 1,890 values; 2: 76 bytes of report; then the questions of page decoding, 150 bytes of data among them
 abbrev pub askDecode : {A : Type 0} → List ℕ → List ℕ → List ℕ → (ℕ → ℕ → A) → A → A
 askDecode soft bytes report refusal next =
     ask (eqb (length soft) 1890) (refusal 1 0)
-    (ask (eqb (length report) 12) (refusal 2 0)
+    (ask (eqb (length report) 76) (refusal 2 0)
     (askPage soft limit bytes refusal next))
 
 abbrev pub decodeAnswer : List ℕ → List ℕ → List ℕ → PageOutcome
@@ -28,7 +28,7 @@ decodeAnswer soft bytes report = askDecode soft bytes report refusedPage (outcom
 
 -- For the code's contracts: the report of an answered page; after a refusal the old bytes
 abbrev pub reportAfter : List ℕ → PageOutcome → List ℕ
-reportAfter old o = cond (eqb (o .number) 0) (reportOf o) old
+reportAfter old o = cond (eqb (o .number) 0) (reportOf (o .report)) old
 
 -- For the code's contracts: the entry returned r and left the data and the report that the page settles
 pub record PageReturned (soft bytes report : List ℕ) (r : ℕ) (newBytes newReport : List ℕ) : Type 0 where

@@ -1,7 +1,9 @@
 // The station's C interface: 01, "The station's interface". Three entries on byte slices, thin over the public calls; c/station.h declares them.
 // Each returns number + 256 · place, 0 for success, and a refused one changes no byte that it was lent.
+ghost use mathlib.Core.List.{_++_};
 ghost use mathlib.Core.Path.{_≡_};
 ghost use Prim.Native.Nat.{_≤_};
+ghost use lib.ListN.{length, take};
 ghost use Rattle.dump.specs.Dump.{softOf};
 ghost use Rattle.concatenated.specs.Format.{shortPage};
 ghost use Rattle.concatenated.specs.Written.{writtenPage};
@@ -10,9 +12,9 @@ ghost use Rattle.store_pages.specs.Pages.{encodePageAnswer};
 ghost use Rattle.store_dumps.specs.Dumps.{readAnswer};
 ghost use Rattle.questions.specs.Outcome.{number, place};
 ghost use Rattle.station.specs.Returned.{returned, Returned};
-ghost use Rattle.station.specs.Report.{reportOf};
+ghost use Rattle.station.specs.Report.{bytesOf, markBytes, totalsOf};
 ghost use Rattle.station.specs.PageReturned.{PageReturned};
-use page::PageOutcome;
+use page::Report;
 use questions::Outcome;
 
 // A number and a place as one number.
@@ -49,13 +51,13 @@ pub extern "C" fn station_read_dump(dump: &[u8], soft: &mut [u8]) -> u64
     returned_outcome(store_dumps::read_dump(dump, soft))
 }
 
-// The report's 12 bytes: the steps in four, high byte first; then each level's changed and erased total.
-fn report_of(outcome: PageOutcome) -> [u8; 12]
-    ensures { λ r. ⌜ r ≡ reportOf outcome ⌝ }
+// The report's first 12 bytes: the steps in four, high byte first; then each level's changed and erased total.
+fn totals_of(report: Report) -> [u8; 12]
+    ensures { λ r. ⌜ r ≡ totalsOf report ⌝ }
 {
-    let n = outcome.steps;
-    let c = outcome.changed;
-    let e = outcome.erased;
+    let n = report.steps;
+    let c = report.changed;
+    let e = report.erased;
     [
         ((n >> 24) % 256) as u8,
         ((n >> 16) % 256) as u8,
@@ -72,7 +74,35 @@ fn report_of(outcome: PageOutcome) -> [u8; 12]
     ]
 }
 
-// Decodes a soft page of 1,890 values, by the supercode search with limit 500, into `data`, of 150 bytes, and `report`, of 12. Refused by 1, 2, 5 and 10, whose place is the level.
+// A mark in eight bytes, high byte first.
+fn write_mark(mark: u64, out: &mut [u8])
+    requires { ⌜ length (now out) ≡ 8 ⌝ }
+    ensures { λ _. ⌜ now (out .exit) ≡ bytesOf 8 mark ⌝ }
+{
+    let mut k: usize = 0;
+    while k < 8 {
+        out[k] = ((mark >> (8 * (7 - k))) % 256) as u8;
+        k += 1;
+    }
+}
+
+// The report's other 64 bytes: each level's mark of the changed columns, then that of the erased ones.
+fn write_marks(changed: [u64; 4], erased: [u64; 4], out: &mut [u8])
+    requires { ⌜ length (now out) ≡ 76 ⌝ }
+    ensures { λ _. ⌜ now (out .exit) ≡ take 12 (now (out .entry)) ++ markBytes 4 changed erased ⌝ }
+{
+    let mut level: usize = 0;
+    while level < 4 {
+        let first = 12 + 16 * level;
+        let second = first + 8;
+        let end = second + 8;
+        write_mark(changed[level], &mut out[first..second]);
+        write_mark(erased[level], &mut out[second..end]);
+        level += 1;
+    }
+}
+
+// Decodes a soft page of 1,890 values, by the supercode search with limit 500, into `data`, of 150 bytes, and `report`, of 76. Refused by 1, 2, 5 and 10, whose place is the level.
 #[no_mangle]
 pub extern "C" fn station_decode_page(soft: &[u8], data: &mut [u8], report: &mut [u8]) -> u64
     ensures { λ r. ⌜ PageReturned (now (soft .entry)) (now («data» .entry)) (now (report .entry)) r (now («data» .exit)) (now (report .exit)) ⌝ }
@@ -80,7 +110,7 @@ pub extern "C" fn station_decode_page(soft: &[u8], data: &mut [u8], report: &mut
     if soft.len() != 1890 {
         return returned_number(1, 0);
     }
-    if report.len() != 12 {
+    if report.len() != 76 {
         return returned_number(2, 0);
     }
     let outcome = store_pages::decode_page(soft, 500, data);
@@ -89,7 +119,11 @@ pub extern "C" fn station_decode_page(soft: &[u8], data: &mut [u8], report: &mut
     if number != 0 {
         return returned_number(number, place);
     }
-    let filled = report_of(outcome);
-    bytes::copy(&filled, report);
+    let told = outcome.report;
+    let changed = told.changed_marks;
+    let erased = told.erased_marks;
+    let totals = totals_of(told);
+    bytes::copy(&totals, report);
+    write_marks(changed, erased, report);
     returned_number(number, place)
 }

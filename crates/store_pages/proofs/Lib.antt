@@ -2,4 +2,5 @@ pub mod Asked
 pub mod SoftValues
 pub mod BothDecoders
 pub mod WrittenPages
+pub mod Reports
 pub mod ZeroPage

@@ -14,7 +14,7 @@ use Rattle.concatenated.specs.Misread.{WithinReach}
 use Rattle.concatenated.specs.Readers.{shortReader}
 use Rattle.concatenated.specs.OuterCode.{shortOuter, shortEncoder, ShortCodeword}
 use Rattle.questions.specs.Questions.{firstAbove}
-use Rattle.page.specs.Outcomes.{refusedPage, outcomeOf, dataAfter}
+use Rattle.page.specs.Outcomes.{reportOf, refusedPage, outcomeOf, dataAfter}
 use Rattle.page.specs.declared.PageOutcome.{PageOutcome}
 use Rattle.concatenated.proofs.Digits.{Below}
 use Rattle.concatenated.proofs.OuterJoint.{outer-laws}
@@ -42,8 +42,7 @@ module _ (soft : List ℕ) (values-soft : Values 1890 7 soft) (limit : ℕ) (som
         place = ap (λ (x : PageOutcome). x .place) outcome;
         data-are = call .bytes ∙ sym (accepted (List ℕ) (λ n p. old) (dataAfter old D)) ∙ ap (dataAfter old) (back .2) ∙ back .4;
         levels = back .0;
-        answered-so = back .2 ∙ ap (λ (x : PageOutcome). answered (back .0) (x .steps)) (sym outcome);
+        answered-so = back .2 ∙ ap (λ (x : PageOutcome). answered (back .0) (x .report .steps)) (sym outcome);
         rows-are-written = back .3;
-        changed = ap (λ (x : PageOutcome). x .changed) outcome;
-        erased = ap (λ (x : PageOutcome). x .erased) outcome;
+        reported = ap (λ (x : PageOutcome). x .report) outcome ∙ ap (λ (x : PageOutcome). reportOf (back .0) (x .report .steps)) (sym outcome);
       }

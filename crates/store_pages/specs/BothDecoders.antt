@@ -3,10 +3,12 @@ use mathlib.Core.Path.{_≡_}
 use Prim.Native.Nat.{ℕ, _+_}
 use Rattle.page.specs.declared.PageOutcome.{PageOutcome}
 
--- the same number, place and totals; and, for an answered page, the step sum of the first is larger by exactly `dead`
+-- the same number and place; the same totals and marks of changed and erased columns; and, for an answered page, the step sum of the first is larger by exactly `dead`
 pub record SameButSteps (dead : ℕ) (supercode whole : PageOutcome) : Type 0 where
   pub number : supercode .number ≡ whole .number
   pub place : supercode .place ≡ whole .place
-  pub changed : supercode .changed ≡ whole .changed
-  pub erased : supercode .erased ≡ whole .erased
-  pub steps : whole .number ≡ 0 → supercode .steps ≡ whole .steps + dead
+  pub changed : supercode .report .changed ≡ whole .report .changed
+  pub erased : supercode .report .erased ≡ whole .report .erased
+  pub changed-marks : supercode .report .«changed_marks» ≡ whole .report .«changed_marks»
+  pub erased-marks : supercode .report .«erased_marks» ≡ whole .report .«erased_marks»
+  pub steps : whole .number ≡ 0 → supercode .report .steps ≡ whole .report .steps + dead

@@ -1,3 +1,4 @@
 pub mod Pages
 pub mod BothDecoders
 pub mod WrittenPages
+pub mod Reports

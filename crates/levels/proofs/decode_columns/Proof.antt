@@ -10,10 +10,10 @@ use Rattle.levels.proofs.decode_columns.Statement.{statement}
 use Rattle.levels.proofs.decode_columns.Tie as tie
 
 abbrev Inv-loop : tie.InvT-loop
-Inv-loop work₀ limit in-supercodes sums₀ lens₀ bits₀ held₀ changes₀ erased₀ sum₀ level₀ work sums lens bits held changes erased sum level = Decoding (shortReader (searchOf in-supercodes) limit) work₀ work held changes erased sum level × Room sums lens bits
+Inv-loop work₀ limit in-supercodes sums₀ lens₀ bits₀ held₀ changed₀ erased₀ sum₀ level₀ work sums lens bits held changed erased sum level = Decoding (shortReader (searchOf in-supercodes) limit) work₀ work held changed erased sum level × Room sums lens bits
 
 abbrev μ-loop : tie.MeasureT-loop
-μ-loop work₀ limit in-supercodes sums₀ lens₀ bits₀ held₀ changes₀ erased₀ sum₀ level₀ work sums lens bits held changes erased sum level = 4 - level
+μ-loop work₀ limit in-supercodes sums₀ lens₀ bits₀ held₀ changed₀ erased₀ sum₀ level₀ work sums lens bits held changed erased sum level = 4 - level
 
 loop-holds : tie.Need-loop-holds Inv-loop μ-loop
 loop-holds c = (decoding-none _ _ _ _ _ (c .pre .1) (c .pre .3) (c .pre .4) (c .pre .5), c .pre .2)
@@ -35,17 +35,17 @@ mul-r c = search needs
 element-set-from-r : tie.Need-element-set-from-r Inv-loop μ-loop
 element-set-from-r c = search needs
 
-mul-c : tie.Need-mul-c Inv-loop μ-loop
-mul-c c = search needs
+mul-changed : tie.Need-mul-changed Inv-loop μ-loop
+mul-changed c = search needs
 
-element-set-from-c : tie.Need-element-set-from-c Inv-loop μ-loop
-element-set-from-c c = search needs
+element-write-changed : tie.Need-element-write-changed Inv-loop μ-loop
+element-write-changed c = search needs
 
-mul-e : tie.Need-mul-e Inv-loop μ-loop
-mul-e c = search needs
+mul-erased : tie.Need-mul-erased Inv-loop μ-loop
+mul-erased c = search needs
 
-element-set-from-e : tie.Need-element-set-from-e Inv-loop μ-loop
-element-set-from-e c = search needs
+element-write-erased : tie.Need-element-write-erased Inv-loop μ-loop
+element-write-erased c = search needs
 
 add-sum : tie.Need-add-sum Inv-loop μ-loop
 add-sum c = search needs
@@ -58,9 +58,9 @@ loop-less c = search needs
 
 loop-again : tie.Need-loop-again Inv-loop μ-loop
 loop-again c =
-    let turn = c .before .before .before .before .before .before .before .before .before .before .before in
-    let done = c .before .before .before .before .before .decode-level .ensures in
-    (decoding-more _ _ _ _ _ _ _ _ (turn .loop .inv .0) (c .before .before .before .before .before .before .before .before .before .before .loop-test .taken) _ _ (done .0) (so _ (c .before .before .before .before .if1 .left)) (done .1) (done .2) _ (omega arith), done .3)
+    let turn = c .before .before .before .before .before .before .before .before .before in
+    let done = c .before .before .before .decode-level .ensures in
+    (decoding-more _ _ _ _ _ _ _ _ (turn .loop .inv .0) (c .before .before .before .before .before .before .before .before .loop-test .taken) _ _ (done .0) (so _ (c .before .before .if1 .left)) (done .1) (done .2) _ (omega arith), done .3)
 
 returns-2 : tie.Need-returns-2 Inv-loop μ-loop
 returns-2 c = decoding-answered _ _ _ _ _ _ _ _ (c .before .loop .inv .0) (c .loop-test .left)
@@ -76,10 +76,10 @@ decode-columns-spec =
     returns
     mul-r
     element-set-from-r
-    mul-c
-    element-set-from-c
-    mul-e
-    element-set-from-e
+    mul-changed
+    element-write-changed
+    mul-erased
+    element-write-erased
     add-sum
     add-level
     loop-less

@@ -44,8 +44,8 @@ decode-requires c κs =
     let longs = read-long kind (start .args .limit) level work _ _ _ (start .pre .2 .many) (read .read-row .ensures .0) in
     (longs .0, longs .1, refl, read-symbols kind (start .args .limit) level (start .pre .0) work _ _ _ (read .read-row .ensures .0), c .before .roots .ensures .1)
 
-changed-columns-requires : tie.Need-changed-columns-requires
-changed-columns-requires c κs =
+changed-mark-requires : tie.Need-changed-mark-requires
+changed-mark-requires c κs =
     let read = c .before .before .before .before .before .before .before .before .before .before in
     let given = c .before .before .before .before .before in
     let start = read .before .before .before .before .before .before .before in
@@ -57,24 +57,31 @@ changed-columns-requires c κs =
     let word = settled-row-is-a-word level (start .pre .0) _ long _ _ _ (read .read-row .ensures .0) _ (given .before .before .roots .ensures .0) _ _ _ (given .decode .ensures) (c .before .before .before .if1 .taken) in
     (longs .0, longs .1, word .0)
 
+mark-of-requires : tie.Need-mark-of-requires
+mark-of-requires c κs =
+    let read = c .before .before .before .before .before .before .before .before .before .before .before .before in
+    let start = read .before .before .before .before .before .before .before in
+    let a = start .args in
+    read-long (searchOf (a .in-supercodes)) (a .limit) (a .level) (a .work .now) _ _ _ (start .pre .2 .many) (read .read-row .ensures .0) .1
+
 take-off-requires : tie.Need-take-off-requires
 take-off-requires c κs =
-    let read = c .before .before .before .before .before .before .before .before .before .before .before .before .before in
-    let given = c .before .before .before .before .before .before .before .before in
+    let read = c .before .before .before .before .before .before .before .before .before .before .before .before .before .before .before in
+    let given = c .before .before .before .before .before .before .before .before .before .before in
     let start = read .before .before .before .before .before .before .before in
     let level = start .args .level in
     let kind = searchOf (start .args .in-supercodes) in
     let work = start .args .work .now in
     let long : length (map (shortReader kind (start .args .limit) level) work) ≡ 63 = length-map work (shortReader kind (start .args .limit) level) ∙ start .pre .2 .many in
-    let word = settled-row-is-a-word level (start .pre .0) _ long _ _ _ (read .read-row .ensures .0) _ (given .before .before .roots .ensures .0) _ _ _ (given .decode .ensures) (c .before .before .before .before .before .before .if1 .taken) in
+    let word = settled-row-is-a-word level (start .pre .0) _ long _ _ _ (read .read-row .ensures .0) _ (given .before .before .roots .ensures .0) _ _ _ (given .decode .ensures) (c .before .before .before .before .before .before .before .before .if1 .taken) in
     (start .pre .0, start .pre .2, word)
 
 returns : tie.Need-returns
 unfolding LevelDone
 returns c =
-    let read = c .before .before .before .before .before .before .before .before .before .before .before .before .before .before in
-    let given = c .before .before .before .before .before .before .before .before .before in
-    let taken = c .before .before .before .before .before .before .before .if1 .taken in
+    let read = c .before .before .before .before .before .before .before .before .before .before .before .before .before .before .before .before in
+    let given = c .before .before .before .before .before .before .before .before .before .before .before in
+    let taken = c .before .before .before .before .before .before .before .before .before .if1 .taken in
     let start = read .before .before .before .before .before .before .before in
     let level = start .args .level in
     let kind = searchOf (start .args .in-supercodes) in
@@ -82,7 +89,7 @@ returns c =
     let long : length (map (shortReader kind (start .args .limit) level) work) ≡ 63 = length-map work (shortReader kind (start .args .limit) level) ∙ start .pre .2 .many in
     let t = given .before .before .roots .ensures .0 in
     let word = settled-row-is-a-word level (start .pre .0) _ long _ _ _ (read .read-row .ensures .0) _ t _ _ _ (given .decode .ensures) taken in (
-      level-settled level (start .pre .0) _ long _ _ _ (read .read-row .ensures .0) _ t _ _ _ (given .decode .ensures) taken work _ _ refl refl (c .before .before .before .changed-columns .ensures) refl refl (c .take-off .ensures),
+      level-settled level (start .pre .0) _ long _ _ _ (read .read-row .ensures .0) _ t _ _ _ (given .decode .ensures) taken work _ _ refl refl (c .before .before .before .before .before .changed-mark .ensures) (c .before .before .before .mark-of .ensures) refl (c .take-off .ensures),
       read .read-row .ensures .0 .few,
       soft-off level _ work _ (word .0) (start .pre .2) (c .take-off .ensures),
       read .read-row .ensures .1,
@@ -116,7 +123,8 @@ decode-level-spec =
     roots-requires
     slice-aggregate-decode-3
     decode-requires
-    changed-columns-requires
+    changed-mark-requires
+    mark-of-requires
     take-off-requires
     returns
     returns-2)

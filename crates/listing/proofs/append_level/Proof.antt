@@ -21,8 +21,8 @@ slice-aggregate-append-2 c = search needs
 append-requires-2 : tie.Need-append-requires-2
 append-requires-2 c κs = search needs
 
-append-decimal-requires-2 : tie.Need-append-decimal-requires-2
-append-decimal-requires-2 c κs = search needs
+append-columns-requires : tie.Need-append-columns-requires
+append-columns-requires c κs = search needs
 
 slice-aggregate-append-3 : tie.Need-slice-aggregate-append-3
 slice-aggregate-append-3 c = search needs
@@ -30,8 +30,8 @@ slice-aggregate-append-3 c = search needs
 append-requires-3 : tie.Need-append-requires-3
 append-requires-3 c κs = search needs
 
-append-decimal-requires-3 : tie.Need-append-decimal-requires-3
-append-decimal-requires-3 c κs = search needs
+append-columns-requires-2 : tie.Need-append-columns-requires-2
+append-columns-requires-2 c κs = search needs
 
 slice-aggregate-append-4 : tie.Need-slice-aggregate-append-4
 slice-aggregate-append-4 c = search needs
@@ -53,8 +53,8 @@ returns c =
     let level = before .before .before .before .before .before in
     let words = level .before .before .before .before in
     let numbered = then (words .append .ensures) (level .append-decimal .ensures) in
-    let first = then (then numbered (before .append2 .ensures)) (changed .append-decimal2 .ensures) in
-    then (then (then first (between .append3 .ensures)) (erased .append-decimal3 .ensures)) (end .append4 .ensures)
+    let first = then (then numbered (before .append2 .ensures)) (changed .append-columns .ensures) in
+    then (then (then first (between .append3 .ensures)) (erased .append-columns2 .ensures)) (end .append4 .ensures)
 
 pub append-level-spec : {M : Type 1} → statement M
 append-level-spec =
@@ -65,10 +65,10 @@ append-level-spec =
     append-decimal-requires
     slice-aggregate-append-2
     append-requires-2
-    append-decimal-requires-2
+    append-columns-requires
     slice-aggregate-append-3
     append-requires-3
-    append-decimal-requires-3
+    append-columns-requires-2
     slice-aggregate-append-4
     append-requires-4
     same-length

@@ -50,7 +50,7 @@ totals-requires c κs =
     let read = shortReader (searchOf (start .args .in-supercodes)) (start .args .limit) in
     let told = c .before .before .before .before .before .before .before .before .before .before .outcome .given in
     let answer = is-answered read _ _ _ _ _ (left .decode-columns .ensures) (told .0 .0) (told .1) in
-    answer .changes-wide
+    answer .four-changed
 
 totals-requires-2 : tie.Need-totals-requires-2
 totals-requires-2 c κs =
@@ -59,7 +59,7 @@ totals-requires-2 c κs =
     let read = shortReader (searchOf (start .args .in-supercodes)) (start .args .limit) in
     let told = c .before .before .before .before .before .before .before .before .before .before .before .before .outcome .given in
     let answer = is-answered read _ _ _ _ _ (left .decode-columns .ensures) (told .0 .0) (told .1) in
-    answer .erased-wide
+    answer .four-erased
 
 enum-known-outcome-2 : tie.Need-enum-known-outcome-2
 enum-known-outcome-2 c = search needs

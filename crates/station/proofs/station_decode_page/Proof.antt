@@ -1,7 +1,7 @@
 -- `station::station_decode_page` meets its contract: each return by what was asked on the way to it. Assumes nothing.
-use mathlib.Core.Path.{sym, ap, _∙_}
+use mathlib.Core.Path.{ap, _∙_}
 use lib.ListN.{length}
-use Rattle.dump.proofs.Put.{all-copied}
+use Rattle.station.proofs.Marking.{totals-length, report-is}
 use Rattle.station.proofs.PageReturns.{refused-by-soft-length, refused-by-report-length, small, refused, answered}
 use native.Mathlib.Omega.{arith}
 use borrow.Author.Needs.{needs}
@@ -35,8 +35,8 @@ returns-3 c =
     let asked = page .before .before in
     refused _ _ _ (asked .before .if1 .left) (asked .if2 .left) _ _ (page .decode-page .ensures) (c .before .if3 .taken) (c .returned-number3 .ensures)
 
-report-of-requires : tie.Need-report-of-requires
-report-of-requires c κs = search needs
+totals-of-requires : tie.Need-totals-of-requires
+totals-of-requires c κs = search needs
 
 slice-aggregate-copy : tie.Need-slice-aggregate-copy
 slice-aggregate-copy c = search needs
@@ -44,11 +44,14 @@ slice-aggregate-copy c = search needs
 copy-requires : tie.Need-copy-requires
 copy-requires c κs =
     let made = c .before .before in
-    let asked = made .before .before .before .before .before .before in
-    omega (arith, ap length (made .report-of .ensures), asked .if2 .left)
+    let page = made .before .before .before .before .before .before .before in
+    omega (arith, ap length (made .totals-of .ensures) ∙ totals-length (page .decode-page .result .report), page .before .before .if2 .left)
+
+write-marks-requires : tie.Need-write-marks-requires
+write-marks-requires c κs = c .before .before .report .given ∙ c .before .before .before .before .before .before .before .before .before .before .before .before .before .before .before .if2 .left
 
 returned-number-requires-4 : tie.Need-returned-number-requires-4
-returned-number-requires-4 c κs = small (c .before .before .before .before .before .before .before .before .before .decode-page .ensures)
+returned-number-requires-4 c κs = small (c .before .before .before .before .before .before .before .before .before .before .before .before .before .before .before .before .decode-page .ensures)
 
 same-length-2 : tie.Need-same-length-2
 same-length-2 c = search needs
@@ -58,12 +61,13 @@ same-length-3 c = search needs
 
 returns-4 : tie.Need-returns-4
 returns-4 c =
-    let copied = c .before .before .before in
+    let written = c .before .before .before in
+    let copied = written .before .before .before .before in
     let made = copied .before .before .before in
-    let page = made .before .before .before .before in
+    let page = made .before .before .before .before .before .before .before in
     let asked = page .before .before in
-    answered _ _ _ (asked .before .if1 .left) (asked .if2 .left) _ _ (page .decode-page .ensures) (made .before .if3 .left) (c .returned-number4 .ensures) _
-    (copied .copy .ensures .1 ∙ all-copied _ _ (ap length (made .report-of .ensures) ∙ sym (asked .if2 .left)) ∙ made .report-of .ensures)
+    answered _ _ _ (asked .before .if1 .left) (asked .if2 .left) _ _ (page .decode-page .ensures) (made .before .before .before .before .if3 .left) (c .returned-number4 .ensures) _
+    (report-is (page .decode-page .result .report) _ _ _ _ (made .totals-of .ensures) (copied .copy .ensures .1) (written .write-marks .ensures))
 
 pub station-decode-page-spec : {M : Type 1} → statement M
 station-decode-page-spec =
@@ -77,9 +81,10 @@ station-decode-page-spec =
     returned-number-requires-3
     same-length
     returns-3
-    report-of-requires
+    totals-of-requires
     slice-aggregate-copy
     copy-requires
+    write-marks-requires
     returned-number-requires-4
     same-length-2
     same-length-3

@@ -1,7 +1,7 @@
--- `softpage::rows::altered` meets its contract: each return rewrites with the tests that led there. Assumes nothing.
+-- `softpage::sets::altered` meets its contract: each return rewrites with the tests that led there. Assumes nothing.
 use borrow.Author.Tests.{eq-eqb, ne-eqb}
-use Rattle.softpage.proofs.rows.altered.Statement.{statement}
-use Rattle.softpage.proofs.rows.altered.Tie as tie
+use Rattle.softpage.proofs.sets.altered.Statement.{statement}
+use Rattle.softpage.proofs.sets.altered.Tie as tie
 
 returns : tie.Need-returns
 returns c = simp (eq-eqb _ _ (c .if1 .taken))

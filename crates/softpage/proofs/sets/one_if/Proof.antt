@@ -1,7 +1,7 @@
--- `softpage::totals::one_if` meets its contract: each return rewrites with the test that led there. Assumes nothing.
+-- `softpage::sets::one_if` meets its contract: each return rewrites with the test that led there. Assumes nothing.
 use borrow.Author.Tests.{eq-eqb, ne-eqb}
-use Rattle.softpage.proofs.totals.one_if.Statement.{statement}
-use Rattle.softpage.proofs.totals.one_if.Tie as tie
+use Rattle.softpage.proofs.sets.one_if.Statement.{statement}
+use Rattle.softpage.proofs.sets.one_if.Tie as tie
 
 returns : tie.Need-returns
 returns c = simp (eq-eqb _ _ (c .if1 .taken))

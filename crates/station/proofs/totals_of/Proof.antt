@@ -1,8 +1,8 @@
--- `station::report_of` meets its contract: the bytes are the definition's, one by one. Assumes nothing.
-use mathlib.Core.Path.{refl}
+-- `station::totals_of` meets its contract: the four bytes of the steps, and the totals one by one. Assumes nothing.
 use borrow.Author.Needs.{needs}
-use Rattle.station.proofs.report_of.Statement.{statement}
-use Rattle.station.proofs.report_of.Tie as tie
+use Rattle.station.proofs.Bytes.{four-bytes}
+use Rattle.station.proofs.totals_of.Statement.{statement}
+use Rattle.station.proofs.totals_of.Tie as tie
 
 cast-t7 : tie.Need-cast-t7
 cast-t7 c = search needs
@@ -41,10 +41,10 @@ array-read-t39 : tie.Need-array-read-t39
 array-read-t39 c = search needs
 
 returns : tie.Need-returns
-returns c = refl
+returns c = four-bytes _ _
 
-pub report-of-spec : {M : Type 1} → statement M
-report-of-spec =
+pub totals-of-spec : {M : Type 1} → statement M
+totals-of-spec =
     tie.close
     (tie.spec
     cast-t7

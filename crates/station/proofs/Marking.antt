@@ -1,0 +1,92 @@
+-- The loop that writes the marks of a report, level by level, behind its first 12 bytes, and the report that results. Assumes nothing.
+use mathlib.Core.List.{List, _++_}
+use mathlib.Core.Path.{_≡_, sym, ap, _∙_}
+use Prim.Native.Nat.{ℕ, _+_, _-_, _*_, _≤_, _<_}
+use native.Mathlib.Omega.{arith}
+use lib.ListN.{length, length-append, getD, take, drop}
+use lib.Seq.{length-take-le, take-all, take-at}
+use borrow.Rule.Slice.PartMut.{putMid}
+use Rattle.dump.proofs.Put.{put-more, put-length}
+use Rattle.page.specs.declared.Report.{Report}
+use Rattle.station.specs.Report.{bytesOf, totalBytes, markBytes, totalsOf, reportOf}
+use Rattle.station.proofs.Bytes.{bytes-length, mark-bytes-length, changed-part, erased-part}
+
+-- the marks of the levels below i are written
+pub record Marking (old cs es out : List ℕ) (i : ℕ) : Type 0 where
+  pub within : i ≤ 4
+  pub long : length out ≡ 76
+  pub so-far : take (12 + 16 * i) out ≡ take (12 + 16 * i) (take 12 old ++ markBytes 4 cs es)
+
+module _ (old cs es : List ℕ) (room : length old ≡ 76) where
+  target : List ℕ
+  target = take 12 old ++ markBytes 4 cs es
+
+  twelve : length (take 12 old) ≡ 12
+  twelve = length-take-le 12 old (omega (arith, room))
+
+  target-length : length target ≡ 76
+  unfolding target
+  target-length = length-append (take 12 old) (markBytes 4 cs es) ∙ omega (arith, twelve, mark-bytes-length 4 cs es)
+
+  pub marking-none : Marking old cs es old 0
+  marking-none = record { within = omega arith; long = room; so-far = sym (take-at (take 12 old) (markBytes 4 cs es) 12 twelve) }
+
+  module _ (out : List ℕ) (i : ℕ) (f : Marking old cs es out i) (h : i < 4) (c : List ℕ) (changed-is : c ≡ bytesOf 8 (getD cs i 0)) where
+    changed-room : 12 + 16 * i + 8 ≤ length out
+    changed-room = omega (arith, f .long)
+
+    changed-within : 12 + 16 * i + 8 ≤ length target
+    changed-within = omega (arith, target-length)
+
+    changed-at : c ≡ take 8 (drop (12 + 16 * i) target)
+    unfolding target
+    changed-at = changed-is ∙ sym (changed-part (take 12 old) twelve 4 cs es i h)
+
+    -- the first of the two marks of level i is written
+    abbrev pub first-written : List ℕ
+    first-written = putMid (12 + 16 * i) (12 + 16 * i + 8 - (12 + 16 * i)) out c
+
+    pub first-length : length first-written ≡ 76
+    first-length = put-length out target c (12 + 16 * i) 8 changed-room changed-within changed-at ∙ f .long
+
+    first-so-far : take (12 + 16 * i + 8) first-written ≡ take (12 + 16 * i + 8) target
+    unfolding target
+    first-so-far = put-more out target c (12 + 16 * i) 8 changed-room changed-within changed-at (f .so-far)
+
+    module _ (e : List ℕ) (erased-is : e ≡ bytesOf 8 (getD es i 0)) where
+      erased-room : 12 + 16 * i + 8 + 8 ≤ length first-written
+      erased-room = omega (arith, first-length)
+
+      erased-within : 12 + 16 * i + 8 + 8 ≤ length target
+      erased-within = omega (arith, target-length)
+
+      erased-at : e ≡ take 8 (drop (12 + 16 * i + 8) target)
+      unfolding target
+      erased-at = erased-is ∙ sym (erased-part (take 12 old) twelve 4 cs es i h)
+
+      pub marking-more : Marking old cs es (putMid (12 + 16 * i + 8) (12 + 16 * i + 8 + 8 - (12 + 16 * i + 8)) first-written e) (i + 1)
+      unfolding target
+      marking-more =
+          let next : 12 + 16 * (i + 1) ≡ 12 + 16 * i + 8 + 8 = omega arith in
+          record {
+            within = omega arith;
+            long = put-length first-written target e (12 + 16 * i + 8) 8 erased-room erased-within erased-at ∙ first-length;
+            so-far = rw next (put-more first-written target e (12 + 16 * i + 8) 8 erased-room erased-within erased-at first-so-far);
+          }
+
+  pub marking-all : (out : List ℕ) (i : ℕ) → Marking old cs es out i → 4 ≤ i → out ≡ take 12 old ++ markBytes 4 cs es
+  unfolding target
+  marking-all out i f h =
+      sym (take-all (12 + 16 * i) out (omega (arith, f .long))) ∙ f .so-far ∙ take-all (12 + 16 * i) target (omega (arith, target-length))
+
+-- the steps and totals take 12 bytes; copied to the front of a buffer and the marks put behind them, they are the report
+pub totals-length : (r : Report) → length (totalsOf r) ≡ 12
+totals-length r = length-append (bytesOf 4 (r .steps)) (totalBytes (r .changed) (r .erased)) ∙ omega (arith, bytes-length 4 (r .steps))
+
+pub report-is : (r : Report) (totals old copied new : List ℕ) → totals ≡ totalsOf r → copied ≡ take (length totals) totals ++ drop (length totals) old
+    → new ≡ take 12 copied ++ markBytes 4 (r .«changed_marks») (r .«erased_marks») → new ≡ reportOf r
+report-is r totals old copied new told is-copied is =
+    let size : length totals ≡ 12 = ap length told ∙ totals-length r in
+    let front : take (length totals) totals ≡ totals = take-all (length totals) totals (omega arith) in
+    let kept : take 12 copied ≡ totals = ap (take 12) (is-copied ∙ ap (λ (t : List ℕ). t ++ drop (length totals) old) front) ∙ take-at totals _ 12 size in
+    is ∙ ap (λ (t : List ℕ). t ++ markBytes 4 (r .«changed_marks») (r .«erased_marks»)) (kept ∙ told)
