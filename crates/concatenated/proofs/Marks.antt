@@ -34,7 +34,7 @@ digit-above x j = ap (λ (y : ℕ). y % 2) (sym (shr-shr x 1 j ∙ ap (λ (k : �
 -- bit j says whether column j is in the set; a column that the page does not have is in no set
 pub bit-is-membership : (s : List Bool) (j : ℕ) → bitOf (markOf s) j ≡ flag (isIn s j)
 unfolding markOf
-bit-is-membership [] j = ap (λ (x : ℕ). x % 2) (zero-div (2 ^ j))
+bit-is-membership [] j = ap (λ (x : ℕ). x % 2) (zero-div _)
 bit-is-membership (b ∷ s) zero = let one : (flag b + 2 * markOf s) / 1 ≡ flag b + 2 * markOf s = omega arith in ap (λ (x : ℕ). x % 2) one ∙ lowest b (markOf s)
 bit-is-membership (b ∷ s) (suc j) = digit-above (flag b + 2 * markOf s) j ∙ ap (digit 2 j) (others b (markOf s)) ∙ bit-is-membership s j
 

@@ -1,6 +1,5 @@
 -- A page's outcome from what its levels left. Assumes nothing.
-use mathlib.Core.Bool.{Bool}
-use mathlib.Core.List.{List, [], _∷_, map}
+use mathlib.Core.List.{List, [], map}
 use mathlib.Core.Path.{_≡_, refl, sym, ap, ap₂, _∙_, subst, subst⁻¹}
 use Prim.Native.Nat.{ℕ, zero, suc, _+_, _≤_, _<_}
 use native.Mathlib.Omega.{arith}
@@ -9,13 +8,12 @@ use lib.ListN.{length, length-append, getD, take, drop, take-append-drop}
 use lib.Seq.{length-take-le}
 use Rattle.column.specs.Shape.{short}
 use Rattle.reedsolomon.specs.Search.{WordOf}
-use Rattle.concatenated.specs.Lists.{total}
 use Rattle.concatenated.specs.Format.{shortPage, dataBefore, dataCount}
 use Rattle.concatenated.specs.SoftPage.{Soft, softColumns}
 use Rattle.concatenated.specs.Data.{dataBytes}
 use Rattle.concatenated.specs.Decode.{Reader, Level, rows, PageAnswer, answered, refused, decoded}
 use Rattle.concatenated.specs.Written.{rowsData, bytesOfRows}
-use Rattle.concatenated.specs.Marks.{markOf, changedMarks, erasedMarks}
+use Rattle.concatenated.specs.Marks.{changedMarks, erasedMarks}
 use Rattle.concatenated.specs.Arrays.{SoftColumns, Rows}
 use Rattle.concatenated.specs.OuterCode.{shortOuter}
 use Rattle.levels.specs.Levels.{Ends, ColumnsDone}

@@ -2,7 +2,7 @@
 use mathlib.Core.List.{List, [], _∷_, _++_, append-assoc, append-nil}
 use mathlib.Core.Logic.{⊎-elim}
 use mathlib.Core.Path.{_≡_, refl, sym, ap, ap₂, _∙_}
-use Prim.Native.Nat.{ℕ, zero, suc, _+_, _-_, _*_, _/_, _%_, _^_, _≤_, _<_}
+use Prim.Native.Nat.{ℕ, zero, suc, _+_, _-_, _*_, _/_, _%_, _^_, _<_}
 use native.Mathlib.Nat.{eq-or-lt-of-le, not-suc-le-zero, le-of-suc-le-suc, mod-eq-of-lt, add-mul, mul-assoc, suc-inj}
 use native.Mathlib.Omega.{arith}
 use lib.ListN.{length, length-append, getD, take, drop}
@@ -10,17 +10,17 @@ use lib.Pow.{pow-add, mod-pow-add}
 use lib.Seq.{take-at, drop-at, drop-drop, drop-append-le, drop-append-add}
 use Rattle.station.specs.Report.{bytesOf, markBytes, numberIn}
 
--- k bytes of a number, and each of them
-pub bytes-length : (k n : ℕ) → length (bytesOf k n) ≡ k
-unfolding bytesOf
-bytes-length zero n = refl
-bytes-length (suc k) n = ap suc (bytes-length k n)
-
+-- each of k bytes of a number, and how many they are
 pub byte-at : (k n i : ℕ) → i < k → getD (bytesOf k n) i 0 ≡ n / 2 ^ (8 * (k - 1 - i)) % 256
 unfolding bytesOf
 byte-at zero n i h = absurd (not-suc-le-zero h)
 byte-at (suc k) n zero h = let last : suc k - 1 - 0 ≡ k = omega arith in ap (λ (m : ℕ). n / 2 ^ (8 * m) % 256) (sym last)
 byte-at (suc k) n (suc i) h = let same : k - 1 - i ≡ suc k - 1 - suc i = omega arith in byte-at k n i (le-of-suc-le-suc h) ∙ ap (λ (m : ℕ). n / 2 ^ (8 * m) % 256) same
+
+pub bytes-length : (k n : ℕ) → length (bytesOf k n) ≡ k
+unfolding bytesOf
+bytes-length zero n = refl
+bytes-length (suc k) n = ap suc (bytes-length k n)
 
 -- four of them in front of others
 pub four-bytes : (n : ℕ) (rest : List ℕ) → n / 16777216 % 256 ∷ n / 65536 % 256 ∷ n / 256 % 256 ∷ n % 256 ∷ rest ≡ bytesOf 4 n ++ rest
@@ -51,13 +51,13 @@ unfolding markBytes
 mark-bytes-length zero cs es = refl
 mark-bytes-length (suc n) cs es = length-append (markBytes n cs es) _ ∙ omega (arith, mark-bytes-length n cs es, two-marks-length (getD cs n 0) (getD es n 0))
 
-abbrev two : List ℕ → List ℕ → ℕ → List ℕ
-two cs es i = bytesOf 8 (getD cs i 0) ++ bytesOf 8 (getD es i 0)
+abbrev bothMarks : List ℕ → List ℕ → ℕ → List ℕ
+bothMarks cs es i = bytesOf 8 (getD cs i 0) ++ bytesOf 8 (getD es i 0)
 
 -- those of level i, and the others behind them
 record LevelBytes (n : ℕ) (cs es : List ℕ) (i : ℕ) : Type 0 where
   pub others : List ℕ
-  pub are : drop (16 * i) (markBytes n cs es) ≡ two cs es i ++ others
+  pub are : drop (16 * i) (markBytes n cs es) ≡ bothMarks cs es i ++ others
 
 level-bytes : (n : ℕ) (cs es : List ℕ) (i : ℕ) → i < n → LevelBytes n cs es i
 unfolding markBytes
@@ -67,15 +67,15 @@ level-bytes (suc n) cs es i h = ⊎-elim last (λ l. before l (level-bytes n cs 
     last : suc i ≡ suc n → LevelBytes (suc n) cs es i
     last e =
         let same : i ≡ n = suc-inj e in
-        record { others = []; are = drop-at (markBytes n cs es) (two cs es n) (16 * i) (omega (arith, mark-bytes-length n cs es, same)) ∙ ap (two cs es) (sym same) ∙ sym (append-nil (two cs es i)) }
+        record { others = []; are = drop-at (markBytes n cs es) (bothMarks cs es n) (16 * i) (omega (arith, mark-bytes-length n cs es, same)) ∙ ap (bothMarks cs es) (sym same) ∙ sym (append-nil (bothMarks cs es i)) }
 
     before : suc i < suc n → LevelBytes n cs es i → LevelBytes (suc n) cs es i
     before l lower =
         record {
-          others = lower .others ++ two cs es n;
+          others = lower .others ++ bothMarks cs es n;
           are =
-              drop-append-le (16 * i) (markBytes n cs es) (two cs es n) (omega (arith, mark-bytes-length n cs es, l))
-              ∙ ap (λ (t : List ℕ). t ++ two cs es n) (lower .are) ∙ append-assoc (two cs es i) (lower .others) (two cs es n);
+              drop-append-le (16 * i) (markBytes n cs es) (bothMarks cs es n) (omega (arith, mark-bytes-length n cs es, l))
+              ∙ ap (λ (t : List ℕ). t ++ bothMarks cs es n) (lower .are) ∙ append-assoc (bothMarks cs es i) (lower .others) (bothMarks cs es n);
         }
 
 -- the marks of level i behind 12 bytes

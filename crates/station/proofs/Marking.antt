@@ -43,10 +43,10 @@ module _ (old cs es : List ℕ) (room : length old ≡ 76) where
     changed-at = changed-is ∙ sym (changed-part (take 12 old) twelve 4 cs es i h)
 
     -- the first of the two marks of level i is written
-    abbrev pub first-written : List ℕ
+    abbrev first-written : List ℕ
     first-written = putMid (12 + 16 * i) (12 + 16 * i + 8 - (12 + 16 * i)) out c
 
-    pub first-length : length first-written ≡ 76
+    first-length : length first-written ≡ 76
     first-length = put-length out target c (12 + 16 * i) 8 changed-room changed-within changed-at ∙ f .long
 
     first-so-far : take (12 + 16 * i + 8) first-written ≡ take (12 + 16 * i + 8) target

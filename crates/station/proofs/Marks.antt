@@ -13,7 +13,7 @@ use Rattle.store_pages.specs.Pages.{decodedPage}
 use Rattle.store_pages.specs.Reports.{Marked}
 use Rattle.store_pages.proofs.Asked.{every-way}
 use Rattle.store_pages.proofs.Reports.{refusals-are-marked, answers-are-marked}
-use Rattle.station.specs.Report.{markBytes, totalsOf, numberIn, reportOf, changedIn, erasedIn}
+use Rattle.station.specs.Report.{totalsOf, numberIn, reportOf, changedIn, erasedIn}
 use Rattle.station.specs.PageReturned.{limit, decodeAnswer}
 use Rattle.station.proofs.Bytes.{number-comes-back, changed-part, erased-part}
 use Rattle.station.proofs.Marking.{totals-length}

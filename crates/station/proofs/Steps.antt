@@ -1,7 +1,7 @@
 -- The steps of a page fit in the report's four bytes, so that the report gives them back. Assumes nothing.
 use mathlib.Core.List.{List, [], _∷_, map, append-assoc}
 use mathlib.Core.Path.{_≡_, ap, _∙_}
-use Prim.Native.Nat.{ℕ, zero, suc, _+_, _*_, _≤_, _<_}
+use Prim.Native.Nat.{ℕ, zero, suc, _*_, _≤_, _<_}
 use native.Mathlib.Omega.{arith}
 use lib.Dec.{eqb}
 use lib.ListN.{length, take}

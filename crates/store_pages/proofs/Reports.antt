@@ -5,7 +5,6 @@ use mathlib.Core.Path.{_≡_, refl, sym, ap, _∙_, subst, subst⁻¹}
 use Prim.Native.Nat.{ℕ, _^_, _<_}
 use native.Mathlib.Omega.{arith}
 use lib.Count.{ones}
-use lib.Dec.{eqb, leb}
 use lib.ListN.{length, getD, getD-replicate, replicate}
 use Rattle.column.specs.Shape.{short}
 use Rattle.column.proofs.Tabulated.{map-at}
@@ -14,7 +13,7 @@ use Rattle.concatenated.specs.Flags.{flag}
 use Rattle.concatenated.specs.Format.{shortPage}
 use Rattle.concatenated.specs.SoftPage.{softColumns}
 use Rattle.concatenated.specs.Outer.{isIn}
-use Rattle.concatenated.specs.Marks.{markOf, bitOf, changedMarks, erasedMarks}
+use Rattle.concatenated.specs.Marks.{markOf, bitOf}
 use Rattle.concatenated.specs.Decode.{Level, PageAnswer, answered, refused}
 use Rattle.concatenated.specs.Readers.{shortReader}
 use Rattle.concatenated.specs.OuterCode.{shortOuter, shortEncoder, ShortCodeword}
@@ -22,10 +21,9 @@ use Rattle.concatenated.proofs.Marks.{bit-is-membership, no-bit-above, mark-is-
 use Rattle.concatenated.proofs.Answers.{LevelSets, answer-is-of-levels, sets-of-levels}
 use Rattle.concatenated.proofs.OuterJoint.{outer-laws}
 use Rattle.concatenated.proofs.SoftPages.{as-many-columns}
-use Rattle.page.specs.Outcomes.{refusalReport, reportOf, refusedPage, outcomeOf}
+use Rattle.page.specs.Outcomes.{refusalReport, refusedPage, outcomeOf}
 use Rattle.page.specs.declared.PageOutcome.{PageOutcome}
-use Rattle.questions.specs.Questions.{firstAbove}
-use Rattle.store_pages.specs.Pages.{decodedPage, askPage, PageDecoded}
+use Rattle.store_pages.specs.Pages.{decodedPage, PageDecoded}
 use Rattle.store_pages.specs.Reports.{bitAt, Marked}
 use Rattle.store_pages.proofs.Asked.{every-way}
 

@@ -1,6 +1,5 @@
 -- `levels::decode_level` meets its contract: by what outer decoding gave. Assumes nothing.
 use mathlib.Core.Path.{_≡_, refl, sym, _∙_}
-use Prim.Native.Nat.{_-_}
 use mathlib.Core.List.{map}
 use lib.ListN.{length, length-map}
 use Rattle.concatenated.specs.Readers.{shortReader}

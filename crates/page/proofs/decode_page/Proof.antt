@@ -1,6 +1,6 @@
 -- `page::decode_page` meets its contract: by the two cases of what the levels gave. Assumes nothing.
 use mathlib.Core.Path.{refl, sym, ap, _∙_}
-use Prim.Native.Nat.{ℕ, _-_}
+use Prim.Native.Nat.{ℕ}
 use mathlib.Core.List.{List}
 use Rattle.column.specs.Shape.{short}
 use Rattle.concatenated.specs.Decode.{decoded}

@@ -3,7 +3,7 @@ use Prim.Native.Nat.{_-_}
 use mathlib.Core.Path.{sym, _∙_}
 use native.Mathlib.Omega.{arith}
 use borrow.Author.Needs.{needs}
-use Rattle.station.proofs.Marking.{Marking, marking-none, first-length, marking-more, marking-all}
+use Rattle.station.proofs.Marking.{Marking, marking-none, marking-more, marking-all}
 use Rattle.station.proofs.write_marks.Statement.{statement}
 use Rattle.station.proofs.write_marks.Tie as tie
 
@@ -61,9 +61,7 @@ part-write-mark-start-2 c = search needs
 part-write-mark-end-2 : tie.Need-part-write-mark-end-2 Inv-loop μ-loop
 part-write-mark-end-2 c =
     let turn = c .before .before .before .before .before in
-    let start = turn .before .before in
-    let taken = c .before .before .before .before .loop-test .taken in
-    omega (arith, first-length _ _ _ (start .pre) _ _ (turn .loop .inv) taken _ (c .before .before .write-mark .ensures), taken)
+    omega (arith, c .before .out .given, turn .loop .inv .long, c .before .before .before .before .loop-test .taken)
 
 write-mark-requires-2 : tie.Need-write-mark-requires-2 Inv-loop μ-loop
 write-mark-requires-2 c κs = search needs

@@ -1,9 +1,9 @@
 -- `softpage::sets::mark_of` meets its contract: the mark is that of the first j columns. Assumes nothing.
 use mathlib.Core.Path.{_≡_, sym, ap, _∙_}
-use Prim.Native.Nat.{ℕ, _-_, _<_, _≤_}
-use mathlib.Core.Bool.{Bool, false}
-use mathlib.Core.List.{List, map}
-use lib.ListN.{length, length-map, getD, take}
+use Prim.Native.Nat.{_-_, _<_}
+use mathlib.Core.Bool.{false}
+use mathlib.Core.List.{map}
+use lib.ListN.{length, length-map, take}
 use lib.Seq.{take-all}
 use Rattle.concatenated.specs.Flags.{flag, isOne}
 use Rattle.concatenated.specs.Marks.{markOf}
