@@ -195,23 +195,31 @@ static void answered(const char *name, const uint8_t *soft, const answer *told) 
     check(same, "the header's readers of a report", 0);
 }
 
-/* Columns 0 and 33 read as nothing, and column 62 surely as one that differs by a word of level 3. */
+/* Adds a word to a column that is read surely. */
+static void add_word(uint8_t *column, uint32_t word) {
+    for (int p = 0; p < BITS; p++) if (word >> (BITS - 1 - p) & 1) column[p] = (uint8_t)(7 - column[p]);
+}
+
+/* A page whose columns are known. Column 0 reads as nothing. Column 33 is read with the level-1 word of symbol 1 added: changed at level 1, and spent at levels 2 and 3, where that word stays in
+   it. Column 62 is read with the level-3 word of symbol 1 added: changed at level 3 alone. */
 static void known_columns(void) {
-    const uint32_t level_word = 31139703;
+    enum { LEVEL_1_WORD = 5433, LEVEL_3_WORD = 31139703, LIMIT = 500 };
     uint8_t page[STATION_PAGE_LEN], soft[STATION_SOFT_LEN];
-    answer told = {.marked = 1, .steps = STATION_LEVELS * (61 * BITS + 2 * 500)};
+    answer told = {.marked = 1, .steps = 2 * (62 * BITS + LIMIT) + 2 * (61 * BITS + 2 * LIMIT)};
     for (int i = 0; i < STATION_DATA_LEN; i++) told.data[i] = (uint8_t)(37 * i + 11);
     for (int i = 0; i < STATION_LEVELS; i++) {
-        told.totals[2 * i + 1] = 2;
-        told.marks[2 * i + 1] = (uint64_t)1 << 33 | 1;
+        told.totals[2 * i + 1] = i < 2 ? 1 : 2;
+        told.marks[2 * i + 1] = (i < 2 ? 0 : (uint64_t)1 << 33) | 1;
     }
+    told.totals[2 * 1] = 1;
+    told.marks[2 * 1] = (uint64_t)1 << 33;
     told.totals[2 * 3] = 1;
     told.marks[2 * 3] = (uint64_t)1 << 62;
     check(station_encode_page(told.data, STATION_DATA_LEN, page, sizeof page) == STATION_OK, "encode", 0);
     for (int k = 0; k < STATION_SOFT_LEN; k++) soft[k] = page[k / BITS * 4 + k % BITS / 8] >> (7 - k % BITS % 8) & 1 ? 7 : 0;
-    for (int p = 0; p < BITS; p++) if (level_word >> (BITS - 1 - p) & 1) soft[62 * BITS + p] = (uint8_t)(7 - soft[62 * BITS + p]);
     memset(soft, 3, BITS);
-    memset(soft + 33 * BITS, 3, BITS);
+    add_word(soft + 33 * BITS, LEVEL_1_WORD);
+    add_word(soft + 62 * BITS, LEVEL_3_WORD);
     answered("known columns", soft, &told);
 }
 

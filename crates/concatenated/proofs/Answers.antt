@@ -134,52 +134,55 @@ module _ (P : Format) (outer : RowDecoder) (encoded : RowEncoder) (Codeword : �
     pub changed-is-e : total (l .changed) ≡ errors ℕ-discrete (erasedOf i comes-from) (P .columns) (symbolsOf i comes-from) (Row.symbol (l .symbols))
     pub erased-is-s : total (l .erased) ≡ count (erasedOf i comes-from) (P .columns)
 
-  level-keeps-the-rule : (i : ℕ) (l : Level) → i < levels S → LevelOf S outer read page i l → OuterRule i l
-  unfolding decodedRow level
-  level-keeps-the-rule i l h of =
-      let cs = of .columns in
-      let rs = map (read i) cs in
-      let long = columns-long i cs (reached-columns-are-all i (omega arith) cs (of .reached)) in
-      let xs = symbols S i rs in
-      let ms = marks rs in
-      let c = l .symbols in
-      let rule = laws .given i xs ms c h (long .0) (long .1) (of .row-given) in
-      let lc : length c ≡ P .columns = laws .word i c h (rule .0) .0 in
-      record {
-        comes-from = of;
-        is-codeword = rule .0;
-        is-in-reach = rule .1;
-        changed-is-e =
-            ap (λ (k : Level). total (k .changed)) (of .is-level) ∙ changed-total-is-e xs ms c (long .1 ∙ sym (long .0)) (lc ∙ sym (long .0)) ∙ ap (λ (n : ℕ). errors ℕ-discrete (isIn ms) n (Row.symbol xs) (Row.symbol c)) (long .0);
-        erased-is-s = ap (λ (k : Level). total (k .erased)) (of .is-level) ∙ erased-total-is-s ms ∙ ap (count (isIn ms)) (long .1);
-      }
-
-  -- at each level of an answered page the number of changed columns is e, and of erased ones s
-  pub changed-and-erased-are-e-and-s : (ls : List Level) (n : ℕ) → decoded S outer read page ≡ answered ls n → (i : ℕ) → i < levels S → (d : Level) → OuterRule i (getD ls i d)
-  changed-and-erased-are-e-and-s ls n e i h d = level-keeps-the-rule i (getD ls i d) h (answer-is-of-levels S outer read page ls n e .each i h d)
-
   -- the sets of a level say of each column whether it is in, and no erased column is a changed one
   pub record LevelSets (l : Level) : Type 0 where
     pub changed-long : length (l .changed) ≡ P .columns
     pub erased-long : length (l .erased) ≡ P .columns
     pub apart : (j : ℕ) → isIn (l .erased) j ≡ true → isIn (l .changed) j ≡ false
 
-  level-has-sets : (i : ℕ) (l : Level) → i < levels S → LevelOf S outer read page i l → LevelSets l
-  unfolding decodedRow level
-  level-has-sets i l h of =
-      let cs = of .columns in
-      let rs = map (read i) cs in
-      let long = columns-long i cs (reached-columns-are-all i (omega arith) cs (of .reached)) in
-      let xs = symbols S i rs in
-      let ms = marks rs in
-      let c = l .symbols in
-      let lc : length c ≡ P .columns = laws .word i c h (laws .given i xs ms c h (long .0) (long .1) (of .row-given) .0) .0 in
-      subst⁻¹ LevelSets (of .is-level)
-      (record {
-        changed-long = changed-length xs ms c (long .1 ∙ sym (long .0)) (lc ∙ sym (long .0)) ∙ long .0;
-        erased-long = long .1;
-        apart = erased-is-not-changed xs ms c;
-      })
+  -- the symbols, the marks and the row of a level are as many as the columns
+  module _ (i : ℕ) (l : Level) (h : i < levels S) (of : LevelOf S outer read page i l) where
+    entered : (length (symbols S i (map (read i) (of .columns))) ≡ P .columns) × (length (marks (map (read i) (of .columns))) ≡ P .columns)
+    entered = columns-long i (of .columns) (reached-columns-are-all i (omega arith) (of .columns) (of .reached))
+
+    in-rule : Codeword i (l .symbols) × InReach ℕ-discrete (erasedOf i of) (P .columns) (P .roots i) (symbolsOf i of) (Row.symbol (l .symbols))
+    unfolding decodedRow
+    in-rule = laws .given i (symbols S i (map (read i) (of .columns))) (marks (map (read i) (of .columns))) (l .symbols) h (entered .0) (entered .1) (of .row-given)
+
+    row-long : length (l .symbols) ≡ P .columns
+    row-long = laws .word i (l .symbols) h (in-rule .0) .0
+
+    level-keeps-the-rule : OuterRule i l
+    unfolding level
+    level-keeps-the-rule =
+        let xs = symbols S i (map (read i) (of .columns)) in
+        let ms = marks (map (read i) (of .columns)) in
+        let c = l .symbols in
+        record {
+          comes-from = of;
+          is-codeword = in-rule .0;
+          is-in-reach = in-rule .1;
+          changed-is-e =
+              ap (λ (k : Level). total (k .changed)) (of .is-level) ∙ changed-total-is-e xs ms c (entered .1 ∙ sym (entered .0)) (row-long ∙ sym (entered .0))
+              ∙ ap (λ (n : ℕ). errors ℕ-discrete (isIn ms) n (Row.symbol xs) (Row.symbol c)) (entered .0);
+          erased-is-s = ap (λ (k : Level). total (k .erased)) (of .is-level) ∙ erased-total-is-s ms ∙ ap (count (isIn ms)) (entered .1);
+        }
+
+    level-has-sets : LevelSets l
+    unfolding level
+    level-has-sets =
+        let xs = symbols S i (map (read i) (of .columns)) in
+        let ms = marks (map (read i) (of .columns)) in
+        subst⁻¹ LevelSets (of .is-level)
+        (record {
+          changed-long = changed-length xs ms (l .symbols) (entered .1 ∙ sym (entered .0)) (row-long ∙ sym (entered .0)) ∙ entered .0;
+          erased-long = entered .1;
+          apart = erased-is-not-changed xs ms (l .symbols);
+        })
+
+  -- at each level of an answered page the number of changed columns is e, and of erased ones s
+  pub changed-and-erased-are-e-and-s : (ls : List Level) (n : ℕ) → decoded S outer read page ≡ answered ls n → (i : ℕ) → i < levels S → (d : Level) → OuterRule i (getD ls i d)
+  changed-and-erased-are-e-and-s ls n e i h d = level-keeps-the-rule i (getD ls i d) h (answer-is-of-levels S outer read page ls n e .each i h d)
 
   pub sets-of-levels : (ls : List Level) (n : ℕ) → decoded S outer read page ≡ answered ls n → (i : ℕ) → i < levels S → (d : Level) → LevelSets (getD ls i d)
   sets-of-levels ls n e i h d = level-has-sets i (getD ls i d) h (answer-is-of-levels S outer read page ls n e .each i h d)

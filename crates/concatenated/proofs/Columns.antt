@@ -14,7 +14,7 @@ use Rattle.concatenated.specs.SoftPage.{columnOff}
 use Rattle.concatenated.specs.Decode.{Reading, found, spent, mark, marks, symbol, symbols, changed, rowOff, Level, rows}
 use Rattle.concatenated.specs.Written.{rowAt, writtenSum}
 use Rattle.concatenated.specs.Misread.{otherThan, othersThan, misread}
-use Rattle.concatenated.proofs.Lists.{at-most-one}
+use Rattle.concatenated.proofs.Counting.{at-most-one}
 
 pub row-off-length : (S : Shape) (i : ℕ) (r : List ℕ) (cs : List (List ℕ)) → length r ≡ length cs → length (rowOff S i r cs) ≡ length cs
 unfolding rowOff

@@ -34,6 +34,10 @@ unfolding indicator
 one-for-true true = refl
 one-for-true false = refl
 
+pub at-most-one : (b : Bool) → cond b 1 0 ≤ 1
+at-most-one true = omega arith
+at-most-one false = omega arith
+
 changed-is-wrong : (m : Bool) (x y : ℕ) → cond (isChanged m x y) 1 0 ≡ wrong m (ℕ-discrete x y)
 unfolding wrong unequal
 changed-is-wrong true x y = refl

@@ -1,12 +1,12 @@
 -- Digits and the number they make undo each other, so packed data come back. Assumes nothing.
 use mathlib.Core.Path.{_≡_, refl, sym, ap, ap₂, _∙_, subst, subst⁻¹}
 use mathlib.Core.List.{List, [], _∷_, _++_}
-use Prim.Native.Nat.{ℕ, zero, suc, _+_, _*_, _/_, _%_, _^_, _<_}
+use Prim.Native.Nat.{ℕ, zero, suc, _+_, _-_, _*_, _/_, _%_, _^_, _<_}
 use native.Mathlib.Nat
-use native.Mathlib.Nat.{mod-lt, mod-eq-of-lt, mul-add-div-right, mul-add-mod-self-right, pow-succ', mul-assoc, add-mul, suc-mul, one-le-pow}
+use native.Mathlib.Nat.{not-suc-le-zero, le-of-suc-le-suc, mod-lt, mod-eq-of-lt, mul-add-div-right, mul-add-mod-self-right, pow-succ', mul-assoc, add-mul, suc-mul, one-le-pow}
 use native.Mathlib.Omega.{arith}
 use lib.Arith.{digits-lt, digits-div, mod-mul}
-use lib.ListN.{length, length-append, length-drop, take, drop, take-append-drop}
+use lib.ListN.{length, length-append, length-drop, getD, take, drop, take-append-drop}
 use lib.Seq.{length-take-le, take-at, drop-at}
 use Rattle.reedsolomon.specs.Search.{WordOf}
 use Rattle.packing.specs.Packing.{joined, digit, symbolsOf, bytesOf}
@@ -54,6 +54,12 @@ pub digits-length : (base k x : ℕ) → length (digits base k x) ≡ k
 unfolding digits
 digits-length base zero x = refl
 digits-length base (suc k) x = ap suc (digits-length base k x)
+
+pub digit-at : (base k x i : ℕ) → i < k → getD (digits base k x) i 0 ≡ digit base (k - 1 - i) x
+unfolding digits
+digit-at base zero x i h = absurd (not-suc-le-zero h)
+digit-at base (suc k) x zero h = let last : suc k - 1 - 0 ≡ k = omega arith in ap (λ (m : ℕ). digit base m x) (sym last)
+digit-at base (suc k) x (suc i) h = let same : k - 1 - i ≡ suc k - 1 - suc i = omega arith in digit-at base k x i (le-of-suc-le-suc h) ∙ ap (λ (m : ℕ). digit base m x) same
 
 pub digits-below : (base k x : ℕ) → 0 < base → Below base (digits base k x)
 unfolding digits

@@ -1,9 +1,8 @@
--- Laws of lists: each entry, appending, lists by index, and what an entry adds to a total. Assumes nothing.
-use mathlib.Core.Bool.{Bool, true, false, cond}
+-- Laws of lists: each entry, appending, and lists by index. Assumes nothing.
 use mathlib.Core.Path.{_≡_, refl, ap, _∙_, subst⁻¹}
 use mathlib.Core.Logic.{⊎-elim}
 use mathlib.Core.List.{List, [], _∷_, _++_, map}
-use Prim.Native.Nat.{ℕ, zero, suc, _≤_, _<_}
+use Prim.Native.Nat.{ℕ, zero, suc, _<_}
 use native.Mathlib.Nat.{eq-or-lt-of-le, suc-inj, le-of-suc-le-suc}
 use native.Mathlib.Omega.{arith}
 use lib.ListN.{length, length-append, getD, List·getD-append}
@@ -67,8 +66,3 @@ unfolding listed
 listed-same f g zero h = refl
 listed-same f g (suc n) h =
     ap (λ (t : List _). t ++ (f n ∷ [])) (listed-same f g n (λ j l. h j (omega arith))) ∙ ap (λ (y : _). listed g n ++ (y ∷ [])) (h n (omega arith))
-
--- a column adds at most 1 to a total
-pub at-most-one : (b : Bool) → cond b 1 0 ≤ 1
-at-most-one true = omega arith
-at-most-one false = omega arith

@@ -17,7 +17,7 @@ use Rattle.concatenated.specs.Flags.{flag}
 use Rattle.concatenated.specs.Decode.{Level}
 use Rattle.concatenated.specs.Outer.{isIn}
 use Rattle.concatenated.specs.Marks.{markOf, bitOf}
-use Rattle.concatenated.proofs.Lists.{at-most-one}
+use Rattle.concatenated.proofs.Counting.{at-most-one}
 
 -- the lowest bit, and the others
 lowest : (b : Bool) (m : ℕ) → (flag b + 2 * m) % 2 ≡ flag b

@@ -1,4 +1,4 @@
--- 01: "The station's interface", the lines that the program prints. Assumes nothing.
+-- 01: "The station's interface", and 02, point 6: the lines that the program prints. Assumes nothing.
 use mathlib.Core.List.{List, [], _++_}
 use Prim.Native.Nat.{ℕ, zero, suc}
 use lib.ListN.{getD}
@@ -25,7 +25,7 @@ dataLine bytes = ascii "data " ++ hexOf bytes ++ ascii "\n"
 unfoldable pub refusedLine : ℕ → ℕ → List ℕ
 refusedLine number place = ascii "page refused " ++ decimal number ++ ascii " place " ++ decimal place ++ ascii "\n"
 
--- those of the levels below n, from the lists of their totals and marks
+-- the lines of the levels below n, from the lists of their totals and marks
 unfoldable pub levelLines : ℕ → List ℕ → List ℕ → List ℕ → List ℕ → List ℕ
 levelLines zero changed changedMarks erased erasedMarks = []
 levelLines (suc n) changed changedMarks erased erasedMarks =

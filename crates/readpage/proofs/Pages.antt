@@ -23,7 +23,7 @@ refused-text (answered ls n) some = absurd (some refl)
 refused-text (refused l) some = refl
 
 -- the lines of an answered page's report and bytes
-abbrev pub reportText : Report → List ℕ → List ℕ
+abbrev reportText : Report → List ℕ → List ℕ
 reportText r bytes = pageText (r .steps) (r .changed) (r .«changed_marks») (r .erased) (r .«erased_marks») bytes
 
 answered-text : (old : List ℕ) (d : PageAnswer) → outcomeOf d .number ≡ 0

@@ -18,10 +18,10 @@ fn one_if(m: u8) -> u8
 }
 
 // Whether a row altered the symbol of an unerased column.
-fn altered(x: u8, mark: u8, y: u8) -> u8
-    ensures { λ r. ⌜ r ≡ flag (isChanged (isOne mark) x y) ⌝ }
+fn altered(x: u8, erased: u8, y: u8) -> u8
+    ensures { λ r. ⌜ r ≡ flag (isChanged (isOne erased) x y) ⌝ }
 {
-    if mark == 1 {
+    if erased == 1 {
         return 0;
     }
     if x == y {
@@ -30,7 +30,7 @@ fn altered(x: u8, mark: u8, y: u8) -> u8
     1
 }
 
-// The mark of the columns whose flag is set.
+// The mark of the columns whose flag is set. Flags are 01's marks of a row, 1 = erased; a mark is 02's, a bit a column.
 pub fn mark_of(flags: &[u8; 63]) -> u64
     requires { ⌜ length (now flags) ≡ 63 ⌝ }
     ensures { λ r. ⌜ r ≡ markOf (map isOne (now (flags .entry))) ⌝ }
@@ -45,14 +45,14 @@ pub fn mark_of(flags: &[u8; 63]) -> u64
 }
 
 // The mark of the changed columns: unerased ones whose symbol the row altered.
-pub fn changed_mark(symbols: &[u8; 63], marks: &[u8; 63], row: &[u8; 63]) -> u64
-    requires { ⌜ (length (now symbols) ≡ 63) × (length (now marks) ≡ 63) × (length (now row) ≡ 63) ⌝ }
-    ensures { λ r. ⌜ r ≡ markOf (changed (now (symbols .entry)) (map isOne (now (marks .entry))) (now (row .entry))) ⌝ }
+pub fn changed_mark(symbols: &[u8; 63], erased: &[u8; 63], row: &[u8; 63]) -> u64
+    requires { ⌜ (length (now symbols) ≡ 63) × (length (now erased) ≡ 63) × (length (now row) ≡ 63) ⌝ }
+    ensures { λ r. ⌜ r ≡ markOf (changed (now (symbols .entry)) (map isOne (now (erased .entry))) (now (row .entry))) ⌝ }
 {
     let mut mark: u64 = 0;
     let mut j: usize = 0;
     while j < 63 {
-        mark |= (altered(symbols[j], marks[j], row[j]) as u64) << j;
+        mark |= (altered(symbols[j], erased[j], row[j]) as u64) << j;
         j += 1;
     }
     mark

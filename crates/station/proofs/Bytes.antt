@@ -3,48 +3,39 @@ use mathlib.Core.List.{List, [], _∷_, _++_, append-assoc, append-nil}
 use mathlib.Core.Logic.{⊎-elim}
 use mathlib.Core.Path.{_≡_, refl, sym, ap, ap₂, _∙_}
 use Prim.Native.Nat.{ℕ, zero, suc, _+_, _-_, _*_, _/_, _%_, _^_, _<_}
-use native.Mathlib.Nat.{eq-or-lt-of-le, not-suc-le-zero, le-of-suc-le-suc, mod-eq-of-lt, add-mul, mul-assoc, suc-inj}
+use native.Mathlib.Nat.{eq-or-lt-of-le, not-suc-le-zero, le-of-suc-le-suc, mod-eq-of-lt, pow-suc, suc-inj}
 use native.Mathlib.Omega.{arith}
 use lib.ListN.{length, length-append, getD, take, drop}
-use lib.Pow.{pow-add, mod-pow-add}
+use lib.Pow.{pow-add}
 use lib.Seq.{take-at, drop-at, drop-drop, drop-append-le, drop-append-add}
-use Rattle.station.specs.Report.{bytesOf, markBytes, numberIn}
+use Rattle.packing.specs.Packing.{joined}
+use Rattle.concatenated.specs.Data.{digits}
+use Rattle.concatenated.proofs.Digits.{digits-length, digit-at, joined-of-digits}
+use Rattle.station.specs.Report.{markBytes}
 
--- each of k bytes of a number, and how many they are
-pub byte-at : (k n i : ℕ) → i < k → getD (bytesOf k n) i 0 ≡ n / 2 ^ (8 * (k - 1 - i)) % 256
-unfolding bytesOf
-byte-at zero n i h = absurd (not-suc-le-zero h)
-byte-at (suc k) n zero h = let last : suc k - 1 - 0 ≡ k = omega arith in ap (λ (m : ℕ). n / 2 ^ (8 * m) % 256) (sym last)
-byte-at (suc k) n (suc i) h = let same : k - 1 - i ≡ suc k - 1 - suc i = omega arith in byte-at k n i (le-of-suc-le-suc h) ∙ ap (λ (m : ℕ). n / 2 ^ (8 * m) % 256) same
+-- a byte of a number is eight of its bits
+byte-weight : (m : ℕ) → 2 ^ (8 * m) ≡ 256 ^ m
+byte-weight zero = refl
+byte-weight (suc m) =
+    let more : 8 * suc m ≡ 8 * m + 8 = omega arith in
+    ap (λ (k : ℕ). 2 ^ k) more ∙ pow-add 2 (8 * m) 8 ∙ ap (λ (w : ℕ). w * 256) (byte-weight m) ∙ sym (pow-suc 256 m)
 
-pub bytes-length : (k n : ℕ) → length (bytesOf k n) ≡ k
-unfolding bytesOf
-bytes-length zero n = refl
-bytes-length (suc k) n = ap suc (bytes-length k n)
+-- byte i of eight, as the code shifts for it
+pub byte-at : (n i : ℕ) → i < 8 → n / 2 ^ (8 * (7 - i)) % 256 ≡ getD (digits 256 8 n) i 0
+byte-at n i h = ap (λ (w : ℕ). n / w % 256) (byte-weight (7 - i)) ∙ sym (digit-at 256 8 n i h)
 
--- four of them in front of others
-pub four-bytes : (n : ℕ) (rest : List ℕ) → n / 16777216 % 256 ∷ n / 65536 % 256 ∷ n / 256 % 256 ∷ n % 256 ∷ rest ≡ bytesOf 4 n ++ rest
-unfolding bytesOf
+-- four bytes in front of others
+pub four-bytes : (n : ℕ) (rest : List ℕ) → n / 16777216 % 256 ∷ n / 65536 % 256 ∷ n / 256 % 256 ∷ n % 256 ∷ rest ≡ digits 256 4 n ++ rest
+unfolding digits
 four-bytes n rest = let all : n ≡ n / 1 = omega arith in ap (λ (m : ℕ). n / 16777216 % 256 ∷ n / 65536 % 256 ∷ n / 256 % 256 ∷ m % 256 ∷ rest) all
 
 -- bytes that hold a number give it back
-bytes-hold : (k n x : ℕ) → numberIn x (bytesOf k n) ≡ x * 2 ^ (8 * k) + n % 2 ^ (8 * k)
-unfolding bytesOf numberIn
-bytes-hold zero n x = omega arith
-bytes-hold (suc k) n x =
-    let P = 2 ^ (8 * k) in
-    let more : 8 * suc k ≡ 8 + 8 * k = omega arith in
-    let weight : 2 ^ (8 * suc k) ≡ 256 * P = ap (λ (m : ℕ). 2 ^ m) more ∙ pow-add 2 8 (8 * k) in
-    let rest : n % 2 ^ (8 * suc k) ≡ n / P % 256 * P + n % P = ap (λ (m : ℕ). n % 2 ^ m) more ∙ mod-pow-add n 8 (8 * k) in
-    let front : (x * 256 + n / P % 256) * P ≡ x * 2 ^ (8 * suc k) + n / P % 256 * P = add-mul (x * 256) (n / P % 256) P ∙ ap (λ (m : ℕ). m + n / P % 256 * P) (mul-assoc x 256 P ∙ ap (λ (m : ℕ). x * m) (sym weight)) in
-    bytes-hold k n (x * 256 + n / P % 256) ∙ omega (arith, front, rest)
-
-pub number-comes-back : (k n : ℕ) → n < 2 ^ (8 * k) → numberIn 0 (bytesOf k n) ≡ n
-number-comes-back k n small = bytes-hold k n 0 ∙ omega (arith, mod-eq-of-lt small)
+pub number-comes-back : (k n : ℕ) → n < 256 ^ k → joined 256 0 (digits 256 k n) ≡ n
+number-comes-back k n small = joined-of-digits 256 k n (omega arith) ∙ mod-eq-of-lt small
 
 -- of each level two marks of eight bytes
-two-marks-length : (c e : ℕ) → length (bytesOf 8 c ++ bytesOf 8 e) ≡ 16
-two-marks-length c e = length-append (bytesOf 8 c) (bytesOf 8 e) ∙ ap₂ _+_ (bytes-length 8 c) (bytes-length 8 e)
+two-marks-length : (c e : ℕ) → length (digits 256 8 c ++ digits 256 8 e) ≡ 16
+two-marks-length c e = length-append (digits 256 8 c) (digits 256 8 e) ∙ ap₂ _+_ (digits-length 256 8 c) (digits-length 256 8 e)
 
 pub mark-bytes-length : (n : ℕ) (cs es : List ℕ) → length (markBytes n cs es) ≡ 16 * n
 unfolding markBytes
@@ -52,7 +43,7 @@ mark-bytes-length zero cs es = refl
 mark-bytes-length (suc n) cs es = length-append (markBytes n cs es) _ ∙ omega (arith, mark-bytes-length n cs es, two-marks-length (getD cs n 0) (getD es n 0))
 
 abbrev bothMarks : List ℕ → List ℕ → ℕ → List ℕ
-bothMarks cs es i = bytesOf 8 (getD cs i 0) ++ bytesOf 8 (getD es i 0)
+bothMarks cs es i = digits 256 8 (getD cs i 0) ++ digits 256 8 (getD es i 0)
 
 -- those of level i, and the others behind them
 record LevelBytes (n : ℕ) (cs es : List ℕ) (i : ℕ) : Type 0 where
@@ -80,17 +71,17 @@ level-bytes (suc n) cs es i h = ⊎-elim last (λ l. before l (level-bytes n cs 
 
 -- the marks of level i behind 12 bytes
 module _ (front : List ℕ) (twelve : length front ≡ 12) (n : ℕ) (cs es : List ℕ) (i : ℕ) (h : i < n) where
-  from-level : (k : ℕ) → drop (12 + 16 * i + k) (front ++ markBytes n cs es) ≡ drop k (bytesOf 8 (getD cs i 0) ++ (bytesOf 8 (getD es i 0) ++ level-bytes n cs es i h .others))
+  from-level : (k : ℕ) → drop (12 + 16 * i + k) (front ++ markBytes n cs es) ≡ drop k (digits 256 8 (getD cs i 0) ++ (digits 256 8 (getD es i 0) ++ level-bytes n cs es i h .others))
   from-level k =
       let place : 12 + 16 * i + k ≡ length front + (16 * i + k) = omega (arith, twelve) in
       ap (λ (m : ℕ). drop m (front ++ markBytes n cs es)) place ∙ drop-append-add front (markBytes n cs es) (16 * i + k) ∙ sym (drop-drop k (16 * i) (markBytes n cs es))
-      ∙ ap (drop k) (level-bytes n cs es i h .are ∙ append-assoc (bytesOf 8 (getD cs i 0)) (bytesOf 8 (getD es i 0)) _)
+      ∙ ap (drop k) (level-bytes n cs es i h .are ∙ append-assoc (digits 256 8 (getD cs i 0)) (digits 256 8 (getD es i 0)) _)
 
-  pub changed-part : take 8 (drop (12 + 16 * i) (front ++ markBytes n cs es)) ≡ bytesOf 8 (getD cs i 0)
+  pub changed-part : take 8 (drop (12 + 16 * i) (front ++ markBytes n cs es)) ≡ digits 256 8 (getD cs i 0)
   changed-part =
       let place : 12 + 16 * i ≡ 12 + 16 * i + 0 = omega arith in
-      ap (λ (m : ℕ). take 8 (drop m (front ++ markBytes n cs es))) place ∙ ap (take 8) (from-level 0) ∙ take-at (bytesOf 8 (getD cs i 0)) _ 8 (bytes-length 8 (getD cs i 0))
+      ap (λ (m : ℕ). take 8 (drop m (front ++ markBytes n cs es))) place ∙ ap (take 8) (from-level 0) ∙ take-at (digits 256 8 (getD cs i 0)) _ 8 (digits-length 256 8 (getD cs i 0))
 
-  pub erased-part : take 8 (drop (12 + 16 * i + 8) (front ++ markBytes n cs es)) ≡ bytesOf 8 (getD es i 0)
+  pub erased-part : take 8 (drop (12 + 16 * i + 8) (front ++ markBytes n cs es)) ≡ digits 256 8 (getD es i 0)
   erased-part =
-      ap (take 8) (from-level 8 ∙ drop-at (bytesOf 8 (getD cs i 0)) _ 8 (bytes-length 8 (getD cs i 0))) ∙ take-at (bytesOf 8 (getD es i 0)) _ 8 (bytes-length 8 (getD es i 0))
+      ap (take 8) (from-level 8 ∙ drop-at (digits 256 8 (getD cs i 0)) _ 8 (digits-length 256 8 (getD cs i 0))) ∙ take-at (digits 256 8 (getD es i 0)) _ 8 (digits-length 256 8 (getD es i 0))

@@ -3,4 +3,4 @@ pub mod PageReturns
 pub mod Steps
 pub mod Bytes
 pub mod Marking
-pub mod Marks
+pub mod ReadBack

@@ -7,9 +7,11 @@ use lib.ListN.{length, length-append, getD, take, drop}
 use lib.Seq.{length-take-le, take-all, take-at}
 use borrow.Rule.Slice.PartMut.{putMid}
 use Rattle.dump.proofs.Put.{put-more, put-length}
+use Rattle.concatenated.specs.Data.{digits}
+use Rattle.concatenated.proofs.Digits.{digits-length}
 use Rattle.page.specs.declared.Report.{Report}
-use Rattle.station.specs.Report.{bytesOf, totalBytes, markBytes, totalsOf, reportOf}
-use Rattle.station.proofs.Bytes.{bytes-length, mark-bytes-length, changed-part, erased-part}
+use Rattle.station.specs.Report.{totalBytes, markBytes, stepsAndTotals, reportBytes}
+use Rattle.station.proofs.Bytes.{mark-bytes-length, changed-part, erased-part}
 
 -- the marks of the levels below i are written
 pub record Marking (old cs es out : List ℕ) (i : ℕ) : Type 0 where
@@ -31,7 +33,7 @@ module _ (old cs es : List ℕ) (room : length old ≡ 76) where
   pub marking-none : Marking old cs es old 0
   marking-none = record { within = omega arith; long = room; so-far = sym (take-at (take 12 old) (markBytes 4 cs es) 12 twelve) }
 
-  module _ (out : List ℕ) (i : ℕ) (f : Marking old cs es out i) (h : i < 4) (c : List ℕ) (changed-is : c ≡ bytesOf 8 (getD cs i 0)) where
+  module _ (out : List ℕ) (i : ℕ) (f : Marking old cs es out i) (h : i < 4) (c : List ℕ) (changed-is : c ≡ digits 256 8 (getD cs i 0)) where
     changed-room : 12 + 16 * i + 8 ≤ length out
     changed-room = omega (arith, f .long)
 
@@ -53,7 +55,7 @@ module _ (old cs es : List ℕ) (room : length old ≡ 76) where
     unfolding target
     first-so-far = put-more out target c (12 + 16 * i) 8 changed-room changed-within changed-at (f .so-far)
 
-    module _ (e : List ℕ) (erased-is : e ≡ bytesOf 8 (getD es i 0)) where
+    module _ (e : List ℕ) (erased-is : e ≡ digits 256 8 (getD es i 0)) where
       erased-room : 12 + 16 * i + 8 + 8 ≤ length first-written
       erased-room = omega (arith, first-length)
 
@@ -80,13 +82,13 @@ module _ (old cs es : List ℕ) (room : length old ≡ 76) where
       sym (take-all (12 + 16 * i) out (omega (arith, f .long))) ∙ f .so-far ∙ take-all (12 + 16 * i) target (omega (arith, target-length))
 
 -- the steps and totals take 12 bytes; copied to the front of a buffer and the marks put behind them, they are the report
-pub totals-length : (r : Report) → length (totalsOf r) ≡ 12
-totals-length r = length-append (bytesOf 4 (r .steps)) (totalBytes (r .changed) (r .erased)) ∙ omega (arith, bytes-length 4 (r .steps))
+pub front-length : (r : Report) → length (stepsAndTotals r) ≡ 12
+front-length r = length-append (digits 256 4 (r .steps)) (totalBytes (r .changed) (r .erased)) ∙ omega (arith, digits-length 256 4 (r .steps))
 
-pub report-is : (r : Report) (totals old copied new : List ℕ) → totals ≡ totalsOf r → copied ≡ take (length totals) totals ++ drop (length totals) old
-    → new ≡ take 12 copied ++ markBytes 4 (r .«changed_marks») (r .«erased_marks») → new ≡ reportOf r
-report-is r totals old copied new told is-copied is =
-    let size : length totals ≡ 12 = ap length told ∙ totals-length r in
-    let front : take (length totals) totals ≡ totals = take-all (length totals) totals (omega arith) in
-    let kept : take 12 copied ≡ totals = ap (take 12) (is-copied ∙ ap (λ (t : List ℕ). t ++ drop (length totals) old) front) ∙ take-at totals _ 12 size in
+pub report-is : (r : Report) (front old copied new : List ℕ) → front ≡ stepsAndTotals r → copied ≡ take (length front) front ++ drop (length front) old
+    → new ≡ take 12 copied ++ markBytes 4 (r .«changed_marks») (r .«erased_marks») → new ≡ reportBytes r
+report-is r front old copied new told is-copied is =
+    let size : length front ≡ 12 = ap length told ∙ front-length r in
+    let whole : take (length front) front ≡ front = take-all (length front) front (omega arith) in
+    let kept : take 12 copied ≡ front = ap (take 12) (is-copied ∙ ap (λ (t : List ℕ). t ++ drop (length front) old) whole) ∙ take-at front _ 12 size in
     is ∙ ap (λ (t : List ℕ). t ++ markBytes 4 (r .«changed_marks») (r .«erased_marks»)) (kept ∙ told)

@@ -12,7 +12,7 @@ use Rattle.page.specs.declared.PageOutcome.{PageOutcome}
 use Rattle.questions.specs.Questions.{ask}
 use Rattle.store_pages.specs.Pages.{PageDecoded, askPage}
 use Rattle.station.specs.Returned.{returned}
-use Rattle.station.specs.Report.{reportOf}
+use Rattle.station.specs.Report.{reportBytes}
 use Rattle.station.specs.PageReturned.{PageReturned, limit, askDecode, decodeAnswer, reportAfter}
 use Rattle.station.proofs.Places.{SmallPage, page-small}
 
@@ -53,5 +53,5 @@ module _ (soft bytes report : List ℕ) where
       pub refused : {r : ℕ} → (o .number ≡ 0 → ⊥) → r ≡ returned (o .number) (o .place) → PageReturned soft bytes report r new report
       refused no-answer e = decoded e report (simp (ne-eqb _ _ no-answer))
 
-      pub answered : {r : ℕ} → o .number ≡ 0 → r ≡ returned (o .number) (o .place) → (newReport : List ℕ) → newReport ≡ reportOf (o .report) → PageReturned soft bytes report r new newReport
+      pub answered : {r : ℕ} → o .number ≡ 0 → r ≡ returned (o .number) (o .place) → (newReport : List ℕ) → newReport ≡ reportBytes (o .report) → PageReturned soft bytes report r new newReport
       answered done e newReport is = decoded e newReport (simp (eq-eqb _ _ done) is)

@@ -1,11 +1,9 @@
--- The steps of a page fit in the report's four bytes, so that the report gives them back. Assumes nothing.
-use mathlib.Core.List.{List, [], _∷_, map, append-assoc}
-use mathlib.Core.Path.{_≡_, ap, _∙_}
+-- The steps of a page are few, so that they fit in the report's four bytes. Assumes nothing.
+use mathlib.Core.List.{List, [], _∷_, map}
 use Prim.Native.Nat.{ℕ, zero, suc, _*_, _≤_, _<_}
 use native.Mathlib.Omega.{arith}
 use lib.Dec.{eqb}
-use lib.ListN.{length, take}
-use lib.Seq.{take-at}
+use lib.ListN.{length}
 use Rattle.column.specs.Shape.{Shape, levels, short}
 use Rattle.trellis.specs.Demand.{supercode}
 use Rattle.concatenated.specs.Lists.{sum}
@@ -23,8 +21,6 @@ use Rattle.concatenated.proofs.SoftPages.{as-many-columns}
 use Rattle.questions.proofs.EitherWay.{either}
 use Rattle.store_pages.specs.Pages.{decodedPage}
 use Rattle.store_pages.proofs.Asked.{every-way}
-use Rattle.station.specs.Report.{bytesOf, totalBytes, numberIn, reportOf, stepsIn}
-use Rattle.station.proofs.Bytes.{bytes-length, number-comes-back}
 use Rattle.station.specs.PageReturned.{limit, decodeAnswer}
 
 row-off-within : (S : Shape) (i : ℕ) (r : List ℕ) (cs : List (List ℕ)) → length (rowOff S i r cs) ≤ length cs
@@ -76,12 +72,5 @@ pub steps-are-few : (soft bytes report : List ℕ) → FewSteps (decodeAnswer so
 steps-are-few soft bytes report =
     either FewSteps (eqb (length soft) 1890) _ _ (omega arith)
     (either FewSteps (eqb (length report) 76) _ _ (omega arith)
-    (every-way soft limit bytes FewSteps refusedPage (outcomeOf (decodedPage supercode soft limit)) (λ n p few near. omega arith)
+    (every-way soft limit bytes FewSteps refusedPage (outcomeOf (decodedPage supercode soft limit)) (λ n p some few near. omega arith)
     (decoded-within short shortOuter (shortReader supercode limit) (λ i c h. count-within-the-limit supercode limit i h c) (softColumns shortPage soft) (omega (arith, as-many-columns shortPage soft)) (omega arith))))
-
--- the report's first four bytes are the steps
-pub report-holds-the-steps : (soft bytes report : List ℕ) → stepsIn (reportOf (decodeAnswer soft bytes report .report)) ≡ decodeAnswer soft bytes report .report .steps
-report-holds-the-steps soft bytes report =
-    let r = decodeAnswer soft bytes report .report in
-    ap (numberIn 0) (ap (take 4) (append-assoc (bytesOf 4 (r .steps)) (totalBytes (r .changed) (r .erased)) _) ∙ take-at (bytesOf 4 (r .steps)) _ 4 (bytes-length 4 (r .steps)))
-    ∙ number-comes-back 4 (r .steps) (omega (arith, steps-are-few soft bytes report))

@@ -11,7 +11,7 @@ use Rattle.page.specs.declared.PageOutcome.{PageOutcome}
 use Rattle.questions.specs.Questions.{ask}
 use Rattle.store_pages.specs.Pages.{askPage, decodedPage}
 use Rattle.station.specs.Returned.{returned}
-use Rattle.station.specs.Report.{reportOf}
+use Rattle.station.specs.Report.{reportBytes}
 
 abbrev pub limit : ℕ
 limit = 500
@@ -28,7 +28,7 @@ decodeAnswer soft bytes report = askDecode soft bytes report refusedPage (outcom
 
 -- For the code's contracts: the report of an answered page; after a refusal the old bytes
 abbrev pub reportAfter : List ℕ → PageOutcome → List ℕ
-reportAfter old o = cond (eqb (o .number) 0) (reportOf (o .report)) old
+reportAfter old o = cond (eqb (o .number) 0) (reportBytes (o .report)) old
 
 -- For the code's contracts: the entry returned r and left the data and the report that the page settles
 pub record PageReturned (soft bytes report : List ℕ) (r : ℕ) (newBytes newReport : List ℕ) : Type 0 where

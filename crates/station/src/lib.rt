@@ -5,6 +5,7 @@ ghost use mathlib.Core.Path.{_≡_};
 ghost use Prim.Native.Nat.{_≤_};
 ghost use lib.ListN.{length, take};
 ghost use Rattle.dump.specs.Dump.{softOf};
+ghost use Rattle.concatenated.specs.Data.{digits};
 ghost use Rattle.concatenated.specs.Format.{shortPage};
 ghost use Rattle.concatenated.specs.Written.{writtenPage};
 ghost use Rattle.concatenated.specs.OuterCode.{shortEncoder};
@@ -12,7 +13,7 @@ ghost use Rattle.store_pages.specs.Pages.{encodePageAnswer};
 ghost use Rattle.store_dumps.specs.Dumps.{readAnswer};
 ghost use Rattle.questions.specs.Outcome.{number, place};
 ghost use Rattle.station.specs.Returned.{returned, Returned};
-ghost use Rattle.station.specs.Report.{bytesOf, markBytes, totalsOf};
+ghost use Rattle.station.specs.Report.{markBytes, stepsAndTotals};
 ghost use Rattle.station.specs.PageReturned.{PageReturned};
 use page::Report;
 use questions::Outcome;
@@ -52,8 +53,8 @@ pub extern "C" fn station_read_dump(dump: &[u8], soft: &mut [u8]) -> u64
 }
 
 // The report's first 12 bytes: the steps in four, high byte first; then each level's changed and erased total.
-fn totals_of(report: Report) -> [u8; 12]
-    ensures { λ r. ⌜ r ≡ totalsOf report ⌝ }
+fn steps_and_totals(report: Report) -> [u8; 12]
+    ensures { λ r. ⌜ r ≡ stepsAndTotals report ⌝ }
 {
     let n = report.steps;
     let c = report.changed;
@@ -77,7 +78,7 @@ fn totals_of(report: Report) -> [u8; 12]
 // A mark in eight bytes, high byte first.
 fn write_mark(mark: u64, out: &mut [u8])
     requires { ⌜ length (now out) ≡ 8 ⌝ }
-    ensures { λ _. ⌜ now (out .exit) ≡ bytesOf 8 mark ⌝ }
+    ensures { λ _. ⌜ now (out .exit) ≡ digits 256 8 mark ⌝ }
 {
     let mut k: usize = 0;
     while k < 8 {
@@ -122,8 +123,8 @@ pub extern "C" fn station_decode_page(soft: &[u8], data: &mut [u8], report: &mut
     let told = outcome.report;
     let changed = told.changed_marks;
     let erased = told.erased_marks;
-    let totals = totals_of(told);
-    bytes::copy(&totals, report);
+    let front = steps_and_totals(told);
+    bytes::copy(&front, report);
     write_marks(changed, erased, report);
     returned_number(number, place)
 }

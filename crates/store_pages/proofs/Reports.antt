@@ -5,7 +5,7 @@ use mathlib.Core.Path.{_≡_, refl, sym, ap, _∙_, subst, subst⁻¹}
 use Prim.Native.Nat.{ℕ, _^_, _<_}
 use native.Mathlib.Omega.{arith}
 use lib.Count.{ones}
-use lib.ListN.{length, getD, getD-replicate, replicate}
+use lib.ListN.{length, length-map, getD, getD-replicate, replicate}
 use Rattle.column.specs.Shape.{short}
 use Rattle.column.proofs.Tabulated.{map-at}
 use Rattle.trellis.specs.Demand.{Search}
@@ -21,10 +21,10 @@ use Rattle.concatenated.proofs.Marks.{bit-is-membership, no-bit-above, mark-is-
 use Rattle.concatenated.proofs.Answers.{LevelSets, answer-is-of-levels, sets-of-levels}
 use Rattle.concatenated.proofs.OuterJoint.{outer-laws}
 use Rattle.concatenated.proofs.SoftPages.{as-many-columns}
-use Rattle.page.specs.Outcomes.{refusalReport, refusedPage, outcomeOf}
+use Rattle.page.specs.Outcomes.{reportOf, refusalReport, refusedPage, outcomeOf}
 use Rattle.page.specs.declared.PageOutcome.{PageOutcome}
 use Rattle.store_pages.specs.Pages.{decodedPage, PageDecoded}
-use Rattle.store_pages.specs.Reports.{bitAt, Marked}
+use Rattle.store_pages.specs.Reports.{bitAt, Marked, MarksOf}
 use Rattle.store_pages.proofs.Asked.{every-way}
 
 -- the level that none is
@@ -43,6 +43,7 @@ pub refusals-are-marked : Marked refusalReport
 unfolding ones
 refusals-are-marked =
     record {
+      four = (refl, refl);
       changed = refl;
       erased = refl;
       small = λ i h. (omega (arith, none i h), omega (arith, none i h));
@@ -55,37 +56,63 @@ one-is-in true e = refl
 one-is-in false e = absurd (omega (arith, e))
 
 module _ (s : Search) (soft : List ℕ) (limit : ℕ) where
+  -- an answered page: four levels with sets of 63 columns, and the marks of its report are theirs
+  module _ (ls : List Level) (n : ℕ) (e : decodedPage s soft limit ≡ answered ls n) where
+    four-levels : length ls ≡ 4
+    four-levels = answer-is-of-levels short shortOuter (shortReader s limit) (softColumns shortPage soft) ls n e .as-many
+
+    sets : (i : ℕ) → i < 4 → LevelSets shortPage shortOuter shortEncoder ShortCodeword outer-laws (shortReader s limit) (softColumns shortPage soft) (as-many-columns shortPage soft) (getD ls i noLevel)
+    sets i h = sets-of-levels shortPage shortOuter shortEncoder ShortCodeword outer-laws (shortReader s limit) (softColumns shortPage soft) (as-many-columns shortPage soft) ls n e i h noLevel
+
+    module _ (f : Level → List Bool) where
+      mark : (i : ℕ) (d : Level) → i < 4 → getD (map (λ l. markOf (f l)) ls) i 0 ≡ markOf (f (getD ls i d))
+      mark i d h = map-at (λ l. markOf (f l)) ls i d 0 (omega (arith, four-levels, h))
+
+      bit : (i j : ℕ) (d : Level) → i < 4 → bitAt (map (λ l. markOf (f l)) ls) i j ≡ flag (isIn (f (getD ls i d)) j)
+      bit i j d h = ap (λ (m : ℕ). bitOf m j) (mark i d h) ∙ bit-is-membership (f (getD ls i d)) j
+
+      below-63 : (i : ℕ) → i < 4 → length (f (getD ls i noLevel)) ≡ 63 → getD (map (λ l. markOf (f l)) ls) i 0 < 2 ^ 63
+      below-63 i h long = subst⁻¹ (λ (m : ℕ). m < 2 ^ 63) (mark i noLevel h) (subst (λ (k : ℕ). markOf (f (getD ls i noLevel)) < 2 ^ k) long (mark-is-small (f (getD ls i noLevel))))
+
+      bit-63 : (i : ℕ) → i < 4 → length (f (getD ls i noLevel)) ≡ 63 → bitAt (map (λ l. markOf (f l)) ls) i 63 ≡ 0
+      bit-63 i h long = ap (λ (m : ℕ). bitOf m 63) (mark i noLevel h) ∙ no-bit-above (f (getD ls i noLevel)) 63 (omega (arith, long))
+
+    answered-is-marked : Marked (reportOf ls n)
+    answered-is-marked =
+        record {
+          four = (length-map ls _ ∙ four-levels, length-map ls _ ∙ four-levels);
+          changed = sym (ones-of-marks (λ l. l .changed) ls);
+          erased = sym (ones-of-marks (λ l. l .erased) ls);
+          small = λ i h. (below-63 (λ l. l .changed) i h (sets i h .changed-long), below-63 (λ l. l .erased) i h (sets i h .erased-long));
+          no-column-63 = λ i h. (bit-63 (λ l. l .changed) i h (sets i h .changed-long), bit-63 (λ l. l .erased) i h (sets i h .erased-long));
+          apart = λ i j h is.
+              bit (λ l. l .changed) i j noLevel h ∙ ap flag (sets i h .apart j (one-is-in _ (sym (bit (λ l. l .erased) i j noLevel h) ∙ is)));
+        }
+
   pub answers-are-marked : (d : PageAnswer) → decodedPage s soft limit ≡ d → Marked (outcomeOf d .report)
   unfolding outcomeOf
   answers-are-marked (refused l) e = refusals-are-marked
-  answers-are-marked (answered ls n) e =
-      record {
-        changed = sym (ones-of-marks (λ l. l .changed) ls);
-        erased = sym (ones-of-marks (λ l. l .erased) ls);
-        small = λ i h. (small i (λ l. l .changed) h (sets i h .changed-long), small i (λ l. l .erased) h (sets i h .erased-long));
-        no-column-63 = λ i h. (
-          bit i 63 (λ l. l .changed) h ∙ no-bit-above (getD ls i noLevel .changed) 63 (omega (arith, sets i h .changed-long)),
-          bit i 63 (λ l. l .erased) h ∙ no-bit-above (getD ls i noLevel .erased) 63 (omega (arith, sets i h .erased-long)),
-        );
-        apart = λ i j h is.
-            let erased : isIn (getD ls i noLevel .erased) j ≡ true = one-is-in _ (sym (bit-is-membership (getD ls i noLevel .erased) j) ∙ sym (bit i j (λ l. l .erased) h) ∙ is) in
-            bit i j (λ l. l .changed) h ∙ bit-is-membership (getD ls i noLevel .changed) j ∙ ap flag (sets i h .apart j erased);
-      }
-    where
-      sets : (i : ℕ) → i < 4 → LevelSets shortPage shortOuter shortEncoder ShortCodeword outer-laws (shortReader s limit) (softColumns shortPage soft) (as-many-columns shortPage soft) (getD ls i noLevel)
-      sets i h = sets-of-levels shortPage shortOuter shortEncoder ShortCodeword outer-laws (shortReader s limit) (softColumns shortPage soft) (as-many-columns shortPage soft) ls n e i h noLevel
+  answers-are-marked (answered ls n) e = answered-is-marked ls n e
 
-      mark : (i : ℕ) (f : Level → List Bool) → i < 4 → getD (map (λ l. markOf (f l)) ls) i 0 ≡ markOf (f (getD ls i noLevel))
-      mark i f h = map-at (λ l. markOf (f l)) ls i noLevel 0 (omega (arith, answer-is-of-levels short shortOuter (shortReader s limit) (softColumns shortPage soft) ls n e .as-many, h))
-
-      bit : (i j : ℕ) (f : Level → List Bool) → i < 4 → bitAt (map (λ l. markOf (f l)) ls) i j ≡ bitOf (markOf (f (getD ls i noLevel))) j
-      bit i j f h = ap (λ (m : ℕ). bitOf m j) (mark i f h)
-
-      small : (i : ℕ) (f : Level → List Bool) → i < 4 → length (f (getD ls i noLevel)) ≡ 63 → getD (map (λ l. markOf (f l)) ls) i 0 < 2 ^ 63
-      small i f h long = subst⁻¹ (λ (m : ℕ). m < 2 ^ 63) (mark i f h) (subst (λ (n : ℕ). markOf (f (getD ls i noLevel)) < 2 ^ n) long (mark-is-small (f (getD ls i noLevel))))
-
-  -- either decoder, every input: what holds of a report holds of the call's
+  -- either decoder, every input
   pub reports-are-marked : (old : List ℕ) (r : PageOutcome) (new : List ℕ) → PageDecoded s soft limit old r new → Marked (r .report)
   reports-are-marked old r new call =
       subst⁻¹ (λ (o : PageOutcome). Marked (o .report)) (call .answer)
-      (every-way soft limit old (λ (o : PageOutcome). Marked (o .report)) refusedPage (outcomeOf (decodedPage s soft limit)) (λ n p few near. refusals-are-marked) (answers-are-marked (decodedPage s soft limit) refl))
+      (every-way soft limit old (λ (o : PageOutcome). Marked (o .report)) refusedPage (outcomeOf (decodedPage s soft limit)) (λ n p some few near. refusals-are-marked) (answers-are-marked (decodedPage s soft limit) refl))
+
+  answers-have-their-marks : (d : PageAnswer) → decodedPage s soft limit ≡ d → outcomeOf d .number ≡ 0 → MarksOf d (outcomeOf d .report)
+  unfolding outcomeOf
+  answers-have-their-marks (refused l) e z = absurd (omega (arith, z))
+  answers-have-their-marks (answered ls n) e z = record { levels = ls; is = refl; changed-bit = bit ls n e (λ l. l .changed); erased-bit = bit ls n e (λ l. l .erased) }
+
+  -- either decoder, where it answers: the bits of its marks are the columns of the levels' sets
+  pub bits-are-the-columns : (old : List ℕ) (r : PageOutcome) (new : List ℕ) → PageDecoded s soft limit old r new → r .number ≡ 0 → MarksOf (decodedPage s soft limit) (r .report)
+  bits-are-the-columns old r new call =
+      subst⁻¹ HasMarks (call .answer)
+      (every-way soft limit old HasMarks refusedPage (outcomeOf D) (λ n p some few near z. absurd (omega (arith, some, z))) (answers-have-their-marks D refl))
+    where
+      D : PageAnswer
+      D = decodedPage s soft limit
+
+      HasMarks : PageOutcome → Type 0
+      HasMarks o = o .number ≡ 0 → MarksOf (decodedPage s soft limit) (o .report)

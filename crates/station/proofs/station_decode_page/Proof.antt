@@ -1,7 +1,7 @@
 -- `station::station_decode_page` meets its contract: each return by what was asked on the way to it. Assumes nothing.
 use mathlib.Core.Path.{ap, _∙_}
 use lib.ListN.{length}
-use Rattle.station.proofs.Marking.{totals-length, report-is}
+use Rattle.station.proofs.Marking.{front-length, report-is}
 use Rattle.station.proofs.PageReturns.{refused-by-soft-length, refused-by-report-length, small, refused, answered}
 use native.Mathlib.Omega.{arith}
 use borrow.Author.Needs.{needs}
@@ -35,8 +35,8 @@ returns-3 c =
     let asked = page .before .before in
     refused _ _ _ (asked .before .if1 .left) (asked .if2 .left) _ _ (page .decode-page .ensures) (c .before .if3 .taken) (c .returned-number3 .ensures)
 
-totals-of-requires : tie.Need-totals-of-requires
-totals-of-requires c κs = search needs
+steps-and-totals-requires : tie.Need-steps-and-totals-requires
+steps-and-totals-requires c κs = search needs
 
 slice-aggregate-copy : tie.Need-slice-aggregate-copy
 slice-aggregate-copy c = search needs
@@ -45,7 +45,7 @@ copy-requires : tie.Need-copy-requires
 copy-requires c κs =
     let made = c .before .before in
     let page = made .before .before .before .before .before .before .before in
-    omega (arith, ap length (made .totals-of .ensures) ∙ totals-length (page .decode-page .result .report), page .before .before .if2 .left)
+    omega (arith, ap length (made .steps-and-totals .ensures) ∙ front-length (page .decode-page .result .report), page .before .before .if2 .left)
 
 write-marks-requires : tie.Need-write-marks-requires
 write-marks-requires c κs = c .before .before .report .given ∙ c .before .before .before .before .before .before .before .before .before .before .before .before .before .before .before .if2 .left
@@ -67,7 +67,7 @@ returns-4 c =
     let page = made .before .before .before .before .before .before .before in
     let asked = page .before .before in
     answered _ _ _ (asked .before .if1 .left) (asked .if2 .left) _ _ (page .decode-page .ensures) (made .before .before .before .before .if3 .left) (c .returned-number4 .ensures) _
-    (report-is (page .decode-page .result .report) _ _ _ _ (made .totals-of .ensures) (copied .copy .ensures .1) (written .write-marks .ensures))
+    (report-is (page .decode-page .result .report) _ _ _ _ (made .steps-and-totals .ensures) (copied .copy .ensures .1) (written .write-marks .ensures))
 
 pub station-decode-page-spec : {M : Type 1} → statement M
 station-decode-page-spec =
@@ -81,7 +81,7 @@ station-decode-page-spec =
     returned-number-requires-3
     same-length
     returns-3
-    totals-of-requires
+    steps-and-totals-requires
     slice-aggregate-copy
     copy-requires
     write-marks-requires

@@ -3,19 +3,20 @@ use mathlib.Core.Path.{sym, _∙_}
 use Prim.Native.Nat.{_-_}
 use Rattle.concatenated.proofs.Filling.{Front, front-none, front-more, front-all}
 use borrow.Author.Needs.{needs}
-use Rattle.station.specs.Report.{bytesOf}
-use Rattle.station.proofs.Bytes.{bytes-length, byte-at}
+use Rattle.concatenated.specs.Data.{digits}
+use Rattle.concatenated.proofs.Digits.{digits-length}
+use Rattle.station.proofs.Bytes.{byte-at}
 use Rattle.station.proofs.write_mark.Statement.{statement}
 use Rattle.station.proofs.write_mark.Tie as tie
 
 abbrev Inv-loop : tie.InvT-loop
-Inv-loop mark out₀ k₀ out k = Front (bytesOf 8 mark) out 8 k
+Inv-loop mark out₀ k₀ out k = Front (digits 256 8 mark) out 8 k
 
 abbrev μ-loop : tie.MeasureT-loop
 μ-loop mark out₀ k₀ out k = 8 - k
 
 loop-holds : tie.Need-loop-holds Inv-loop μ-loop
-loop-holds c = front-none _ _ 8 (bytes-length 8 _) (c .pre)
+loop-holds c = front-none _ _ 8 (digits-length 256 8 _) (c .pre)
 
 sub-out : tie.Need-sub-out Inv-loop μ-loop
 sub-out c = search needs
@@ -39,7 +40,7 @@ loop-less : tie.Need-loop-less Inv-loop μ-loop
 loop-less c = search needs
 
 loop-again : tie.Need-loop-again Inv-loop μ-loop
-loop-again c = front-more _ _ 8 _ _ 0 (c .before .loop .inv) (c .loop-test .taken) (sym (byte-at 8 (c .before .before .args .mark) (c .before .loop .k) (c .loop-test .taken)))
+loop-again c = front-more _ _ 8 _ _ 0 (c .before .loop .inv) (c .loop-test .taken) (byte-at (c .before .before .args .mark) (c .before .loop .k) (c .loop-test .taken))
 
 same-length : tie.Need-same-length Inv-loop μ-loop
 same-length c = c .before .loop .inv .long-out ∙ sym (c .before .before .pre)

@@ -17,13 +17,13 @@ use Rattle.softpage.proofs.sets.changed_mark.Statement.{statement}
 use Rattle.softpage.proofs.sets.changed_mark.Tie as tie
 
 abbrev Inv-loop : tie.InvT-loop
-Inv-loop symbols marks row mark₀ j₀ mark j = mark ≡ markOf (take j (changed symbols (map isOne marks) row))
+Inv-loop symbols erased row mark₀ j₀ mark j = mark ≡ markOf (take j (changed symbols (map isOne erased) row))
 
 abbrev μ-loop : tie.MeasureT-loop
-μ-loop symbols marks row mark₀ j₀ mark j = 63 - j
+μ-loop symbols erased row mark₀ j₀ mark j = 63 - j
 
 loop-holds : tie.Need-loop-holds Inv-loop μ-loop
-loop-holds c = mark-none (changed (c .args .symbols .now) (map isOne (c .args .marks .now)) (c .args .row .now))
+loop-holds c = mark-none (changed (c .args .symbols .now) (map isOne (c .args .erased .now)) (c .args .row .now))
 
 element-copy-out-altered : tie.Need-element-copy-out-altered Inv-loop μ-loop
 element-copy-out-altered c = search needs
@@ -55,27 +55,27 @@ loop-again c =
     let start = turn .before in
     let h = c .before .before .before .before .loop-test .taken in
     let symbols = start .args .symbols .now in
-    let marks = start .args .marks .now in
+    let erased = start .args .erased .now in
     let row = start .args .row .now in
     let j = turn .loop .j in
-    let long-marks : length (map isOne marks) ≡ length symbols = length-map marks isOne ∙ start .pre .1 ∙ sym (start .pre .0) in
+    let long-erased : length (map isOne erased) ≡ length symbols = length-map erased isOne ∙ start .pre .1 ∙ sym (start .pre .0) in
     let long-row : length row ≡ length symbols = start .pre .2 ∙ sym (start .pre .0) in
     let in-symbols : j < length symbols = omega (arith, start .pre .0, h) in
-    let in-marks : j < length marks = omega (arith, start .pre .1, h) in
-    let in-changed : j < length (changed symbols (map isOne marks) row) = omega (arith, changed-length symbols (map isOne marks) row long-marks long-row, in-symbols) in
-    mark-more (changed symbols (map isOne marks) row) j _ _ in-changed (omega (arith, h)) (turn .loop .inv)
-    (c .altered .ensures ∙ ap (λ (m : Bool). flag (isChanged m (getD symbols j 0) (getD row j 0))) (sym (map-at isOne marks j 0 false in-marks))
-    ∙ ap flag (sym (changed-at symbols (map isOne marks) row j long-marks long-row in-symbols)))
+    let in-erased : j < length erased = omega (arith, start .pre .1, h) in
+    let in-changed : j < length (changed symbols (map isOne erased) row) = omega (arith, changed-length symbols (map isOne erased) row long-erased long-row, in-symbols) in
+    mark-more (changed symbols (map isOne erased) row) j _ _ in-changed (omega (arith, h)) (turn .loop .inv)
+    (c .altered .ensures ∙ ap (λ (m : Bool). flag (isChanged m (getD symbols j 0) (getD row j 0))) (sym (map-at isOne erased j 0 false in-erased))
+    ∙ ap flag (sym (changed-at symbols (map isOne erased) row j long-erased long-row in-symbols)))
 
 returns : tie.Need-returns Inv-loop μ-loop
 returns c =
     let start = c .before .before in
     let symbols = start .args .symbols .now in
-    let marks = start .args .marks .now in
+    let erased = start .args .erased .now in
     let row = start .args .row .now in
-    let long-marks : length (map isOne marks) ≡ length symbols = length-map marks isOne ∙ start .pre .1 ∙ sym (start .pre .0) in
-    let long = changed-length symbols (map isOne marks) row long-marks (start .pre .2 ∙ sym (start .pre .0)) in
-    c .before .loop .inv ∙ ap markOf (take-all (c .before .loop .j) (changed symbols (map isOne marks) row) (omega (arith, long, start .pre .0, c .loop-test .left)))
+    let long-erased : length (map isOne erased) ≡ length symbols = length-map erased isOne ∙ start .pre .1 ∙ sym (start .pre .0) in
+    let long = changed-length symbols (map isOne erased) row long-erased (start .pre .2 ∙ sym (start .pre .0)) in
+    c .before .loop .inv ∙ ap markOf (take-all (c .before .loop .j) (changed symbols (map isOne erased) row) (omega (arith, long, start .pre .0, c .loop-test .left)))
 
 pub changed-mark-spec : {M : Type 1} → statement M
 changed-mark-spec =

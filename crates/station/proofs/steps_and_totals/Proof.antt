@@ -1,8 +1,8 @@
--- `station::totals_of` meets its contract: the four bytes of the steps, and the totals one by one. Assumes nothing.
+-- `station::steps_and_totals` meets its contract: the four bytes of the steps, and the totals one by one. Assumes nothing.
 use borrow.Author.Needs.{needs}
 use Rattle.station.proofs.Bytes.{four-bytes}
-use Rattle.station.proofs.totals_of.Statement.{statement}
-use Rattle.station.proofs.totals_of.Tie as tie
+use Rattle.station.proofs.steps_and_totals.Statement.{statement}
+use Rattle.station.proofs.steps_and_totals.Tie as tie
 
 cast-t7 : tie.Need-cast-t7
 cast-t7 c = search needs
@@ -43,8 +43,8 @@ array-read-t39 c = search needs
 returns : tie.Need-returns
 returns c = four-bytes _ _
 
-pub totals-of-spec : {M : Type 1} → statement M
-totals-of-spec =
+pub steps-and-totals-spec : {M : Type 1} → statement M
+steps-and-totals-spec =
     tie.close
     (tie.spec
     cast-t7

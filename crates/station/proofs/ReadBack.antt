@@ -1,0 +1,71 @@
+-- What C reads of the report that the page decoding entry leaves is the report of the page. Assumes nothing.
+use mathlib.Core.List.{List, append-assoc}
+use mathlib.Core.Path.{_≡_, refl, ap, _∙_, subst⁻¹}
+use Prim.Native.Nat.{ℕ, zero, suc, _+_, _*_, _^_, _<_}
+use native.Mathlib.Omega.{arith}
+use borrow.Author.Tests.{eq-eqb}
+use lib.Dec.{eqb}
+use lib.ListN.{length, getD, take, drop}
+use lib.Seq.{take-at}
+use Rattle.trellis.specs.Demand.{supercode}
+use Rattle.packing.specs.Packing.{joined}
+use Rattle.concatenated.specs.Data.{digits}
+use Rattle.concatenated.proofs.Digits.{digits-length}
+use Rattle.page.specs.Outcomes.{refusedPage, outcomeOf}
+use Rattle.page.specs.declared.PageOutcome.{PageOutcome}
+use Rattle.page.specs.declared.Report.{Report}
+use Rattle.questions.proofs.EitherWay.{either}
+use Rattle.store_pages.specs.Pages.{decodedPage}
+use Rattle.store_pages.specs.Reports.{Marked}
+use Rattle.store_pages.proofs.Asked.{every-way}
+use Rattle.store_pages.proofs.Reports.{refusals-are-marked, answers-are-marked}
+use Rattle.station.specs.Report.{totalBytes, stepsAndTotals, reportBytes, changedTotalIn, erasedTotalIn, Holds}
+use Rattle.station.specs.PageReturned.{limit, decodeAnswer, PageReturned}
+use Rattle.station.proofs.Bytes.{number-comes-back, changed-part, erased-part}
+use Rattle.station.proofs.Marking.{front-length}
+use Rattle.station.proofs.Steps.{steps-are-few}
+
+abbrev ReportMarked : PageOutcome → Type 0
+ReportMarked o = Marked (o .report)
+
+answer-is-marked : (soft bytes report : List ℕ) → ReportMarked (decodeAnswer soft bytes report)
+answer-is-marked soft bytes report =
+    either ReportMarked (eqb (length soft) 1890) _ _ refusals-are-marked
+    (either ReportMarked (eqb (length report) 76) _ _ refusals-are-marked
+    (every-way soft limit bytes ReportMarked refusedPage (outcomeOf (decodedPage supercode soft limit)) (λ n p some few near. refusals-are-marked)
+    (answers-are-marked supercode soft limit (decodedPage supercode soft limit) refl)))
+
+totals-in : (r : Report) (level : ℕ) → level < 4 → (changedTotalIn (reportBytes r) level ≡ getD (r .changed) level 0) × (erasedTotalIn (reportBytes r) level ≡ getD (r .erased) level 0)
+unfolding digits
+totals-in r zero h = (refl, refl)
+totals-in r (suc zero) h = (refl, refl)
+totals-in r (suc (suc zero)) h = (refl, refl)
+totals-in r (suc (suc (suc zero))) h = (refl, refl)
+totals-in r (suc (suc (suc (suc level)))) h = absurd (omega arith)
+
+-- the bytes of a report with few steps and small marks hold it
+bytes-hold : (r : Report) → r .steps < 256 ^ 4 → Marked r → Holds (reportBytes r) r
+bytes-hold r few marked =
+    record {
+      steps =
+          ap (joined 256 0) (ap (take 4) (append-assoc (digits 256 4 (r .steps)) (totalBytes (r .changed) (r .erased)) _) ∙ take-at (digits 256 4 (r .steps)) _ 4 (digits-length 256 4 (r .steps)))
+          ∙ number-comes-back 4 (r .steps) few;
+      totals = totals-in r;
+      marks = λ level h.
+          let cs = r .«changed_marks» in
+          let es = r .«erased_marks» in
+          let place : 20 + 16 * level ≡ 12 + 16 * level + 8 = omega arith in (
+            ap (joined 256 0) (changed-part (stepsAndTotals r) (front-length r) 4 cs es level h) ∙ number-comes-back 8 (getD cs level 0) (omega (arith, marked .small level h .0)),
+            ap (λ (n : ℕ). joined 256 0 (take 8 (drop n (reportBytes r)))) place ∙ ap (joined 256 0) (erased-part (stepsAndTotals r) (front-length r) 4 cs es level h)
+                ∙ number-comes-back 8 (getD es level 0) (omega (arith, marked .small level h .1)),
+          );
+    }
+
+-- the entry returned 0: the report that it left holds that of the page
+pub report-is-read-back : (soft bytes report : List ℕ) (r : ℕ) (newBytes newReport : List ℕ) → PageReturned soft bytes report r newBytes newReport → r ≡ 0
+    → Holds newReport (decodeAnswer soft bytes report .report)
+report-is-read-back soft bytes report r newBytes newReport returned done =
+    let d = decodeAnswer soft bytes report in
+    let answered : d .number ≡ 0 = omega (arith, returned .answer, done) in
+    let is : newReport ≡ reportBytes (d .report) = returned .report-is ∙ simp (eq-eqb _ _ answered) in
+    subst⁻¹ (λ (x : List ℕ). Holds x (d .report)) is (bytes-hold (d .report) (omega (arith, steps-are-few soft bytes report)) (answer-is-marked soft bytes report))
