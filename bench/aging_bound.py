@@ -17,6 +17,7 @@ DOUBT = 0.01  # all upper limits of the table hold at once with 1 - DOUBT
 WORDS_FROM = 2  # from this level on misreads are also bounded without sampling
 TABLES = {"aging-columns-before.csv": ("aging-bound-before.csv", 0), "aging-columns.csv": ("aging-bound.csv", 2)}  # and by how much the values rise a level
 LIMITS = (200, 500, 2000)
+DEFAULT = 200  # of the calls that name no limit
 WAYS = ((200, 0), (500, 0), (2000, 0), (200, 2000), (500, 2000))  # the limit, and that of a second decode if the first is refused
 DOCS = os.path.join(os.path.dirname(os.path.abspath(__file__)), "..", "docs")
 

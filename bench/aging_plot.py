@@ -2,9 +2,9 @@
 """docs/aging.svg from the tables docs/aging-pages.csv, docs/aging-columns.csv and docs/aging-bound.csv, and the last two before document 02's point 3."""
 import math
 import os
-from aging_bound import DOCS, table
+from aging_bound import DEFAULT, DOCS, table
 
-LIMITS = {(200, 0): ("#c0392b", "7 4"), (500, 0): ("#1f4e9c", ""), (2000, 0): ("#2a7d46", "2 3")}
+LIMITS = {(200, 0): ("#1f4e9c", ""), (500, 0): ("#c0392b", "7 4"), (2000, 0): ("#2a7d46", "2 3")}
 AGAIN = {(200, 2000): ("#d98200", "9 2"), (500, 2000): ("#8e44ad", "4 2")}
 LEVELS = {0: ("#222222", ""), 1: ("#b8541a", "8 3"), 2: ("#7a3e9d", "5 3"), 3: ("#0b7a75", "2 3")}
 WIDTH, HEIGHT, ACROSS = 400, 250, 490  # of a panel's field, and from panel to panel
@@ -111,17 +111,17 @@ def bound_panel(bounds, before):
 
 
 def column_panels(columns, bounds, before):
-    unread = Panel(4, "Unread columns by level, limit 500", "share of columns; thin: before", (0.0005, 4), (1e-7, 1), True)
-    misread = Panel(5, "Misread columns by level, limit 500", "share of columns; thin: bound by words", (0.0005, 4), (1e-16, 1), True)
+    unread = Panel(4, f"Unread columns by level, limit {DEFAULT}", "share of columns; thin: before", (0.0005, 4), (1e-7, 1), True)
+    misread = Panel(5, f"Misread columns by level, limit {DEFAULT}", "share of columns; thin: bound by words", (0.0005, 4), (1e-16, 1), True)
     unread.grid((0.001, 0.01, 0.1, 0.5, 1, 2, 4), powers(-7, 0, 1))
     misread.grid((0.001, 0.01, 0.1, 0.5, 1, 2, 4), powers(-16, 0, 2))
     for level, style in LEVELS.items():
-        now, old = ([r for r in rows if r["limit"] == 500 and r["level"] == level] for rows in (columns, before))
+        now, old = ([r for r in rows if r["limit"] == DEFAULT and r["level"] == level] for rows in (columns, before))
         unread.line(percents([r for r in old if r["unread"]], lambda r: r["unread"] / r["columns"]), style, 0.9, False)
         for panel, key in ((unread, "unread"), (misread, "misread")):
             panel.line(percents([r for r in now if r[key]], lambda r: r[key] / r["columns"]), style)
     for level in (2, 3):
-        misread.line(percents(of_way(bounds, (500, 0)), lambda r: r[f"misread{level}_by_words"]), (LEVELS[level][0], ""), 0.9, False)
+        misread.line(percents(of_way(bounds, (DEFAULT, 0)), lambda r: r[f"misread{level}_by_words"]), (LEVELS[level][0], ""), 0.9, False)
     return [unread, misread]
 
 

@@ -5,7 +5,7 @@ import itertools
 import math
 import os
 import re
-from aging_bound import DOCS, LIMITS, WAYS, cases, inverse_tail, level_bound, table, upper_rates, way_bound
+from aging_bound import DEFAULT, DOCS, LIMITS, WAYS, cases, inverse_tail, level_bound, table, upper_rates, way_bound
 
 PROMISE = 1e-16
 CODE_RATE = 150 * 8 / (63 * 30)
@@ -162,9 +162,11 @@ def promise_table(bounds, by_case):
 
 def figure(before, bounds):
     old, new = ({way: percent(end["rate"]) for way, end in ends(b).items()} for b in (before, bounds))
-    others = "; ".join(f"with {name(way)}{',' if way[1] else ''} up to {new[way]} (before {old[way]})" for way in WAYS if way != (500, 0))
-    return (f"**With limit 500, the station's, the promise holds up to a raw bit error rate of {new[500, 0]} (before {old[500, 0]}); {others}. This is on the "
-            f"channel below. Above that we do not promise it.**")
+    alone, again = (DEFAULT, 0), (DEFAULT, 2000)
+    others = "; ".join(f"with {name(way)}{',' if way[1] else ''} up to {new[way]} (before {old[way]})" for way in WAYS if way not in (alone, again))
+    return (f"**With limit {DEFAULT}, the default, the promise holds up to a raw bit error rate of {new[alone]} (before {old[alone]}), and up to {new[again]} "
+            f"(before {old[again]}) where a page that is refused by 10 is decoded once more with 2,000; {others}. This is on the channel below. \"Before\" is "
+            f"before the bias by level. Above these rates we do not promise it.**")
 
 
 def room(most, way):
@@ -249,8 +251,8 @@ def main():
     pages, columns, spreads, ties, bounds = (table(f"aging-{kind}.csv") for kind in ("pages", "columns", "spreads", "ties", "bound"))
     before, by_case_before, by_case = table("aging-bound-before.csv"), cases(table("aging-columns-before.csv")), cases(columns)
     texts = {"cost": cost_table(before, by_case_before, bounds, by_case), "promise": promise_table(bounds, by_case), "figure": figure(before, bounds),
-             "totals": totals(pages, columns), "pages": page_table(pages), "erased": erased_table(pages), "columns": column_table(columns, 500),
-             "bound": bound_table(bounds), "levels": level_table(bounds, (500, 0)), "check": check_table(pages, bounds), "ties": tie_table(ties),
+             "totals": totals(pages, columns), "pages": page_table(pages), "erased": erased_table(pages), "columns": column_table(columns, DEFAULT),
+             "bound": bound_table(bounds), "levels": level_table(bounds, (DEFAULT, 0)), "check": check_table(pages, bounds), "ties": tie_table(ties),
              "room": room_table(bounds, by_case), "spreads": spread_table(columns + spreads), "paper": paper_table(before, bounds)}
     page = os.path.join(DOCS, "AGING.md")
     with open(page) as old:

@@ -34,7 +34,7 @@ static uint64_t baseline_searches(search *one, const uint8_t *soft, const baseli
 
 int main(int argc, char **argv) {
     static uint8_t soft[COLUMNS * BITS];
-    int limit = argc > 1 ? atoi(argv[1]) : 500, differ = 0;
+    int limit = argc > 1 ? atoi(argv[1]) : 200, differ = 0;
     printf("column searches, limit %d, microseconds a column: store | plain C heap, ratio | packed C heap, ratio\n", limit);
     for (size_t k = 0; k < KINDS; k++)
         for (int level = 0; level < LEVELS; level++)

@@ -6,7 +6,12 @@
 #include <stdio.h>
 #include <string.h>
 
-enum { DATA = 150, WRITTEN = 252, SOFT = 1890, PAGES = 100, ROUNDS = 40, LIMIT = 500, WAYS = 3 };
+enum { DATA = 150, WRITTEN = 252, SOFT = 1890, PAGES = 100, ROUNDS = 20, WAYS = 3, NO_WORD = 10 };
+
+/* Limits: the first decode's and that of a second one if the first is refused by 10; 0: no second decode. The default, the one that was it before, and the way that c/station.h advises. */
+typedef struct { const char *name; int first, then; } limits;
+static const limits uses[] = {{"limit 200, the default", 200, 0}, {"limit 500", 500, 0}, {"limit 200, and 2000 if that is refused by 10", 200, 2000}};
+enum { USES = sizeof uses / sizeof uses[0] };
 
 static uint8_t data[PAGES][DATA], soft[PAGES][SOFT], written[2][PAGES][WRITTEN], back[WAYS][PAGES][DATA];
 static page_outcome outcomes[WAYS][PAGES];
@@ -16,17 +21,60 @@ static void least(double *best, double from) {
     if (t < *best) *best = t;
 }
 
-static void decode(int way, int p) {
+static void decode_once(int way, int p, int limit) {
     if (way) {
-        outcomes[way][p] = page_baseline_decode(way == 1 ? baseline_plain : baseline_packed, soft[p], LIMIT, back[way][p]);
+        outcomes[way][p] = page_baseline_decode(way == 1 ? baseline_plain : baseline_packed, soft[p], limit, back[way][p]);
         return;
     }
-    paged o = entry_decode_page(soft[p], SOFT, LIMIT, back[0][p], DATA);
+    paged o = entry_decode_page(soft[p], SOFT, (uint64_t)limit, back[0][p], DATA);
     outcomes[0][p] = (page_outcome){.number = o.number, .place = o.place, .steps = o.steps};
     memcpy(outcomes[0][p].changed, o.changed, sizeof o.changed);
     memcpy(outcomes[0][p].erased, o.erased, sizeof o.erased);
     memcpy(outcomes[0][p].changed_marks, o.changed_marks, sizeof o.changed_marks);
     memcpy(outcomes[0][p].erased_marks, o.erased_marks, sizeof o.erased_marks);
+}
+
+/* whether the page was decoded twice */
+static int decode(int way, int p, const limits *use) {
+    decode_once(way, p, use->first);
+    int again = use->then && outcomes[way][p].number == NO_WORD;
+    if (again) decode_once(way, p, use->then);
+    return again;
+}
+
+/* The rows of one use of the limits; whether an answer differs. */
+static int decoding(const limits *use) {
+    int differ = 0;
+    printf("page decoding, supercode search, %s, microseconds a page: store | C with the plain heap, ratio | with the packed heap, ratio\n", use->name);
+    for (int k = 0; k < KINDS; k++) {
+        for (int p = 0; p < PAGES; p++)
+            for (int n = 0; n < SOFT; n++) soft[p][n] = soft_of(written[1][p][n / BITS * 4 + n % BITS / 8] >> (7 - n % BITS % 8) & 1, kinds[k].sigma);
+        double best[WAYS] = {1e9, 1e9, 1e9};
+        int twice = 0;
+        memset(back, 0, sizeof back);
+        for (int round = 0; round < ROUNDS; round++)
+            for (int way = 0; way < WAYS; way++) {
+                twice = 0;
+                double t = seconds();
+                for (int p = 0; p < PAGES; p++) twice += decode(way, p, use);
+                least(&best[way], t);
+            }
+        uint64_t steps = 0;
+        int refused = 0, right = 0;
+        for (int p = 0; p < PAGES; p++) {
+            steps += outcomes[0][p].steps;
+            refused += outcomes[0][p].number != 0;
+            right += !memcmp(back[0][p], data[p], DATA);
+        }
+        int wrong = 0;
+        for (int way = 1; way < WAYS; way++) wrong |= memcmp(back[0], back[way], sizeof back[0]) || memcmp(outcomes[0], outcomes[way], sizeof outcomes[0]);
+        differ |= wrong;
+        printf("%-14s %9.3f | %9.3f %.2f | %9.3f %.2f  (of %d pages %d as written, %d refused", kinds[k].name, best[0] / PAGES * 1e6, best[1] / PAGES * 1e6, best[0] / best[1],
+               best[2] / PAGES * 1e6, best[0] / best[2], PAGES, right, refused);
+        if (use->then) printf(", %d decoded twice", twice);
+        printf("; %.0f steps a page not refused)%s\n", refused < PAGES ? (double)steps / (PAGES - refused) : 0.0, wrong ? "  ANSWERS DIFFER" : "");
+    }
+    return differ;
 }
 
 int main(void) {
@@ -46,31 +94,10 @@ int main(void) {
     differ |= wrong;
     printf("page coding, microseconds a page: store | C, ratio\n");
     printf("%-14s %9.3f | %9.3f %.2f%s\n", "coding", code[0] / PAGES * 1e6, code[1] / PAGES * 1e6, code[0] / code[1], wrong ? "  PAGES DIFFER" : "");
-    printf("page decoding, supercode search, limit %d, microseconds a page: store | C with the plain heap, ratio | with the packed heap, ratio\n", LIMIT);
-    for (int k = 0; k < KINDS; k++) {
-        for (int p = 0; p < PAGES; p++)
-            for (int n = 0; n < SOFT; n++) soft[p][n] = soft_of(written[1][p][n / BITS * 4 + n % BITS / 8] >> (7 - n % BITS % 8) & 1, kinds[k].sigma);
-        double best[WAYS] = {1e9, 1e9, 1e9};
-        memset(back, 0, sizeof back);
-        for (int round = 0; round < ROUNDS; round++)
-            for (int way = 0; way < WAYS; way++) {
-                double t = seconds();
-                for (int p = 0; p < PAGES; p++) decode(way, p);
-                least(&best[way], t);
-            }
-        uint64_t steps = 0;
-        int refused = 0, right = 0;
-        for (int p = 0; p < PAGES; p++) {
-            steps += outcomes[0][p].steps;
-            refused += outcomes[0][p].number != 0;
-            right += !memcmp(back[0][p], data[p], DATA);
-        }
-        wrong = 0;
-        for (int way = 1; way < WAYS; way++) wrong |= memcmp(back[0], back[way], sizeof back[0]) || memcmp(outcomes[0], outcomes[way], sizeof outcomes[0]);
-        differ |= wrong;
-        printf("%-14s %9.3f | %9.3f %.2f | %9.3f %.2f  (of %d pages %d as written, %d refused; %.0f steps a page not refused)%s\n", kinds[k].name, best[0] / PAGES * 1e6,
-               best[1] / PAGES * 1e6, best[0] / best[1], best[2] / PAGES * 1e6, best[0] / best[2], PAGES, right, refused,
-               refused < PAGES ? (double)steps / (PAGES - refused) : 0.0, wrong ? "  ANSWERS DIFFER" : "");
+    const uint64_t drawn = state;
+    for (int u = 0; u < USES; u++) {
+        state = drawn; /* the same pages for every use */
+        differ |= decoding(&uses[u]);
     }
     return differ;
 }

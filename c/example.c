@@ -1,4 +1,5 @@
-/* One page of a station: weights are written, the page wears, its bits are read as eight levels, and the weights come back. Compiles as C and as C++. */
+/* One page of a station: weights are written, the page wears, its bits are read as eight levels, and the weights come back; when it is worn more, after a second
+   decode with a larger limit. Compiles as C and as C++. */
 #include "station.h"
 #include <stdio.h>
 #include <string.h>
@@ -28,14 +29,14 @@ static int written_bit(const uint8_t page[STATION_PAGE_LEN], int k) {
     return page[COLUMN_BYTES * column + bit / 8] >> (7 - bit % 8) & 1;
 }
 
-/* Reads a worn page. Of a thousand bits some 2 are read wrongly and surely, 8 wrongly and weakly, 100 rightly and weakly, the others rightly and surely.
-   Gives how many were read wrongly. */
-static int read_worn(const uint8_t page[STATION_PAGE_LEN], uint8_t soft[STATION_SOFT_LEN]) {
+/* Reads a worn page. Of a thousand bits some 2 are read wrongly and surely, 8 wrongly and weakly, 100 rightly and weakly, each times the wear, the others
+   rightly and surely. Gives how many were read wrongly. */
+static int read_worn(const uint8_t page[STATION_PAGE_LEN], unsigned wear, uint8_t soft[STATION_SOFT_LEN]) {
     uint32_t state = 1;
     int wrong = 0;
     for (int k = 0; k < STATION_SOFT_LEN; k++) {
         uint32_t luck = next(&state) % 1000;
-        int misread = luck < 10, weak = luck >= 2 && luck < 110;
+        int misread = luck < 10 * wear, weak = luck >= 2 * wear && luck < 110 * wear;
         int sureness = weak ? (int)(luck % 2) : 3;
         int bit = written_bit(page, k) ^ misread;
         soft[k] = (uint8_t)(bit ? 4 + sureness : 3 - sureness);
@@ -57,12 +58,7 @@ static void print_columns(const char *what, unsigned total, uint64_t mark) {
         if (mark >> j & 1) printf(" %u", j);
 }
 
-int main(void) {
-    uint8_t data[STATION_DATA_LEN], page[STATION_PAGE_LEN], soft[STATION_SOFT_LEN], back[STATION_DATA_LEN], report[STATION_REPORT_LEN];
-    weigh(data);
-    if (refused("encode", station_encode_page(data, sizeof data, page, sizeof page))) return 1;
-    printf("%d of %d bits read wrongly\n", read_worn(page, soft), STATION_SOFT_LEN);
-    if (refused("decode", station_decode_page(soft, sizeof soft, back, sizeof back, report, sizeof report))) return 1;
+static void print_report(const uint8_t report[STATION_REPORT_LEN]) {
     printf("steps %lu\n", (unsigned long)station_steps(report));
     for (unsigned level = 0; level < STATION_LEVELS; level++) {
         printf("level %u", level);
@@ -70,8 +66,28 @@ int main(void) {
         print_columns("erased", station_erased(report, level), station_erased_mark(report, level));
         printf("\n");
     }
+}
+
+/* Decodes as a station should: with the default limit and, if no word is in reach then, once more with the largest. */
+static uint64_t decode(const uint8_t soft[STATION_SOFT_LEN], uint8_t data[STATION_DATA_LEN], uint8_t report[STATION_REPORT_LEN]) {
+    uint64_t result = station_decode_page(soft, STATION_SOFT_LEN, data, STATION_DATA_LEN, report, STATION_REPORT_LEN);
+    if (station_number(result) != STATION_NO_WORD) return result;
+    printf("no word in reach at level %lu with limit %d: once more with %d\n", (unsigned long)station_place(result), STATION_DEFAULT_LIMIT, STATION_LARGEST_LIMIT);
+    return station_decode_page_limit(soft, STATION_SOFT_LEN, STATION_LARGEST_LIMIT, data, STATION_DATA_LEN, report, STATION_REPORT_LEN);
+}
+
+int main(void) {
+    uint8_t data[STATION_DATA_LEN], page[STATION_PAGE_LEN], soft[STATION_SOFT_LEN], back[STATION_DATA_LEN], report[STATION_REPORT_LEN];
+    weigh(data);
+    if (refused("encode", station_encode_page(data, sizeof data, page, sizeof page))) return 1;
+    for (unsigned wear = 1; wear <= 2; wear++) {
+        printf("%d of %d bits read wrongly\n", read_worn(page, wear, soft), STATION_SOFT_LEN);
+        if (refused("decode", decode(soft, back, report))) return 1;
+        print_report(report);
+        int same = !memcmp(data, back, sizeof data);
+        puts(same ? "the data are as written" : "the data differ");
+        if (!same) return 1;
+    }
     for (int i = 0; i < RECORDS; i++) printf("%.*s\n", RECORD, (const char *)back + RECORD * i);
-    int same = !memcmp(data, back, sizeof data);
-    puts(same ? "the data are as written" : "the data differ");
-    return !same;
+    return 0;
 }

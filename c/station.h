@@ -1,10 +1,11 @@
 /* station.h: the station's C interface to the soft page store.
 
-   A page holds 150 bytes of data in 63 columns of 30 bits. Three calls serve it:
+   A page holds 150 bytes of data in 63 columns of 30 bits. Four calls serve it:
 
-       station_encode_page   data       -> written page
-       station_read_dump     chip dump  -> soft page
-       station_decode_page   soft page  -> data and a report
+       station_encode_page         data              -> written page
+       station_read_dump           chip dump         -> soft page
+       station_decode_page         soft page         -> data and a report
+       station_decode_page_limit   soft page, limit  -> data and a report
 
    BUFFERS. Each is passed as a pointer and a length in bytes and stays the caller's; nothing is kept after the call. The pointer is valid for
    that length; with length 0 it may be NULL. An output may not overlap another buffer of the call.
@@ -16,14 +17,19 @@
        STATION_OUTPUT_LENGTH   2   has every output the stated length?
        STATION_FIXED_BYTES     7   are a dump block's fixed and zero bytes right?    place: the block, 0..3
        STATION_CHECK           8   is its check right? (7 and 8 go block by block)   place: the block, 0..3
+       STATION_LIMIT           4   is the limit 1..STATION_LARGEST_LIMIT?
        STATION_VALUE           5   is each soft value 0..7?                          place: the first bad one in the soft page, 0..1889
        STATION_NO_WORD        10   is there an outer word in reach?                  place: the level, 0..3
 
    The place is 0 where none is named.
 
+   LIMIT. Each column is searched at each level for at most so many steps; a column that has no word by then counts as erased. The call that
+   names no limit takes STATION_DEFAULT_LIMIT, which was 500 and is 200 now: worn pages take less time, and more of them are refused by 10.
+   Whoever counted on 500, as the dump service did, must name it: station_decode_page_limit(soft, soft_len, 500, ...).
+
    THREADS. The calls have no state and allocate nothing; they may run at the same time on different buffers.
 
-   STACK. As measured on x86-64, station_decode_page takes some 27 KB and the others up to 4 KB.
+   STACK. As measured on x86-64, page decoding takes some 27 KB and the others up to 4 KB.
 
    The archive is libstation.a, made by `rt staticlib station`. It needs memcpy and memset of the C library, and nothing else. */
 #ifndef STATION_H
@@ -36,7 +42,7 @@
 extern "C" {
 #endif
 
-/* Lengths in bytes, and the numbers of levels and columns. */
+/* Lengths in bytes, the numbers of levels and columns, and limits. */
 enum {
     STATION_DATA_LEN = 150,
     STATION_PAGE_LEN = 252,
@@ -44,7 +50,9 @@ enum {
     STATION_DUMP_LEN = 2048,
     STATION_REPORT_LEN = 76,
     STATION_LEVELS = 4,
-    STATION_COLUMNS = 63
+    STATION_COLUMNS = 63,
+    STATION_DEFAULT_LIMIT = 200,
+    STATION_LARGEST_LIMIT = 2000
 };
 
 /* Numbers of refusals. */
@@ -52,6 +60,7 @@ enum {
     STATION_OK = 0,
     STATION_INPUT_LENGTH = 1,
     STATION_OUTPUT_LENGTH = 2,
+    STATION_LIMIT = 4,
     STATION_VALUE = 5,
     STATION_FIXED_BYTES = 7,
     STATION_CHECK = 8,
@@ -63,9 +72,15 @@ enum {
 uint64_t station_encode_page(const uint8_t *data, size_t data_len, uint8_t *page, size_t page_len);
 
 /* Decodes a soft page of STATION_SOFT_LEN values, 30 a column; 0..3 read as bit 0 and 4..7 as bit 1, 0 and 7 being the surest. Each column is
-   searched for at most 500 steps; a column that has no word by then counts as erased. Gives STATION_DATA_LEN bytes of data and a report of
-   STATION_REPORT_LEN bytes, which station_steps, station_changed, station_erased, station_changed_mark and station_erased_mark read. Refused by
-   1, 2, 5 and 10. */
+   searched for at most `limit` steps at each level. Gives STATION_DATA_LEN bytes of data and a report of STATION_REPORT_LEN bytes, which
+   station_steps, station_changed, station_erased, station_changed_mark and station_erased_mark read. Refused by 1, 2, 4, 5 and 10. */
+uint64_t station_decode_page_limit(const uint8_t *soft, size_t soft_len, uint64_t limit, uint8_t *data, size_t data_len, uint8_t *report, size_t report_len);
+
+/* The same with STATION_DEFAULT_LIMIT. Refused by 1, 2, 5 and 10.
+
+   A page that it refuses by 10 is not lost yet: decode it once more, with station_decode_page_limit and STATION_LARGEST_LIMIT. Without that
+   second decode the promise of fewer than one bad page in 10^16 ends at a raw bit error rate of 0.0013 %, with it at 0.032 %, and with
+   STATION_LARGEST_LIMIT from the start at 0.225 %, on the channel of docs/AGING.md. */
 uint64_t station_decode_page(const uint8_t *soft, size_t soft_len, uint8_t *data, size_t data_len, uint8_t *report, size_t report_len);
 
 /* Reads the soft page of STATION_SOFT_LEN values out of a dump of STATION_DUMP_LEN bytes, four blocks of 512. Refused by 1, 2, 7, 8 and 5. */

@@ -1,7 +1,9 @@
-/* Calls the station's entries as a C program does: every length, NULL with length 0, bad values, late refusals, a page whose changed and erased columns are known, and the stored pages of a
-   vector folder (default tests/vectors).
+/* Calls the station's entries as a C program does: every length, NULL with length 0, limits, bad values, late refusals, pages whose changed and erased columns are known, and the stored pages
+   and dumps of a vector folder (default tests/vectors).
    A refused call may change no byte of any buffer or of the bytes around it. Prints `N checked, M differ`; fails if one differs. */
 #include "../c/station.h"
+#include "listing.h"
+#include <dirent.h>
 #include <stdio.h>
 #include <stdlib.h>
 #include <string.h>
@@ -75,13 +77,17 @@ static int reported(const buffer *b, const answer *told) {
     return holds(b, expected, told->marked ? STATION_REPORT_LEN : TOTALS);
 }
 
-static void decode(const char *what, const uint8_t *soft, size_t soft_len, size_t data_len, size_t report_len, unsigned number, uint64_t place, const answer *told) {
-    lend(&in, soft, STATION_SOFT_LEN, soft_len);
-    lend(&out, NULL, 0, data_len);
-    lend(&report, NULL, 0, report_len);
-    uint64_t r = station_decode_page(bytes(&in), in.len, bytes(&out), out.len, bytes(&report), report.len);
-    int left = told ? holds(&out, told->data, out.len) && reported(&report, told) : kept(&out) && kept(&report);
-    check(is(r, number, place) && kept(&in) && left, what, r);
+/* With the default limit both entries are called, and are to do the same. */
+static void decode(const char *what, const uint8_t *soft, size_t soft_len, uint64_t limit, size_t data_len, size_t report_len, unsigned number, uint64_t place, const answer *told) {
+    for (int named = limit != STATION_DEFAULT_LIMIT; named < 2; named++) {
+        lend(&in, soft, STATION_SOFT_LEN, soft_len);
+        lend(&out, NULL, 0, data_len);
+        lend(&report, NULL, 0, report_len);
+        uint64_t r = named ? station_decode_page_limit(bytes(&in), in.len, limit, bytes(&out), out.len, bytes(&report), report.len)
+                           : station_decode_page(bytes(&in), in.len, bytes(&out), out.len, bytes(&report), report.len);
+        int left = told ? holds(&out, told->data, out.len) && reported(&report, told) : kept(&out) && kept(&report);
+        check(is(r, number, place) && kept(&in) && left, what, r);
+    }
 }
 
 /* A wrong length: 0, one less, one more, far more. */
@@ -91,9 +97,10 @@ static size_t wrong(size_t len, int k) {
     return lengths[k];
 }
 
-/* The input's length is asked before the outputs', and both before the values, which are bad here. */
+/* The input's length is asked before the outputs', and both before the limit and the values, which are bad here. */
 static void lengths(void) {
     static uint8_t bad[STATION_DUMP_LEN];
+    const uint64_t limits[] = {STATION_DEFAULT_LIMIT, 0};
     memset(bad, 8, sizeof bad);
     for (int k = 0; k < WRONG; k++) {
         size_t data = wrong(STATION_DATA_LEN, k), page = wrong(STATION_PAGE_LEN, k), soft = wrong(STATION_SOFT_LEN, k), dump = wrong(STATION_DUMP_LEN, k), told = wrong(STATION_REPORT_LEN, k);
@@ -103,12 +110,14 @@ static void lengths(void) {
         read_dump("read, dump length", bad, dump, STATION_SOFT_LEN, STATION_INPUT_LENGTH, 0, NULL);
         read_dump("read, soft length", bad, STATION_DUMP_LEN, soft, STATION_OUTPUT_LENGTH, 0, NULL);
         read_dump("read, both lengths", bad, dump, soft, STATION_INPUT_LENGTH, 0, NULL);
-        decode("decode, soft length", bad, soft, STATION_DATA_LEN, STATION_REPORT_LEN, STATION_INPUT_LENGTH, 0, NULL);
-        decode("decode, data length", bad, STATION_SOFT_LEN, data, STATION_REPORT_LEN, STATION_OUTPUT_LENGTH, 0, NULL);
-        decode("decode, report length", bad, STATION_SOFT_LEN, STATION_DATA_LEN, told, STATION_OUTPUT_LENGTH, 0, NULL);
-        decode("decode, all lengths", bad, soft, data, told, STATION_INPUT_LENGTH, 0, NULL);
+        for (int l = 0; l < 2; l++) {
+            decode("decode, soft length", bad, soft, limits[l], STATION_DATA_LEN, STATION_REPORT_LEN, STATION_INPUT_LENGTH, 0, NULL);
+            decode("decode, data length", bad, STATION_SOFT_LEN, limits[l], data, STATION_REPORT_LEN, STATION_OUTPUT_LENGTH, 0, NULL);
+            decode("decode, report length", bad, STATION_SOFT_LEN, limits[l], STATION_DATA_LEN, told, STATION_OUTPUT_LENGTH, 0, NULL);
+            decode("decode, all lengths", bad, soft, limits[l], data, told, STATION_INPUT_LENGTH, 0, NULL);
+        }
     }
-    decode("decode, a report without marks", bad, STATION_SOFT_LEN, STATION_DATA_LEN, TOTALS, STATION_OUTPUT_LENGTH, 0, NULL);
+    decode("decode, a report without marks", bad, STATION_SOFT_LEN, STATION_DEFAULT_LIMIT, STATION_DATA_LEN, TOTALS, STATION_OUTPUT_LENGTH, 0, NULL);
 }
 
 /* Bad soft values: the first one is the place. */
@@ -118,7 +127,24 @@ static void soft_values(void) {
         uint8_t soft[STATION_SOFT_LEN] = {0};
         soft[STATION_SOFT_LEN - 1] = 255;
         soft[at[i]] = 8;
-        decode("decode, soft value", soft, sizeof soft, STATION_DATA_LEN, STATION_REPORT_LEN, STATION_VALUE, at[i], NULL);
+        decode("decode, soft value", soft, sizeof soft, STATION_DEFAULT_LIMIT, STATION_DATA_LEN, STATION_REPORT_LEN, STATION_VALUE, at[i], NULL);
+    }
+}
+
+/* The page of zeros, read surely: 30 steps a column at each level, so every column is spent below that. A limit outside 1..STATION_LARGEST_LIMIT is asked before the values. */
+static void limits(void) {
+    static const struct { uint64_t limit; unsigned number; } cases[] = {
+        {0, STATION_LIMIT}, {1, STATION_NO_WORD}, {BITS - 1, STATION_NO_WORD}, {BITS, STATION_OK}, {STATION_DEFAULT_LIMIT, STATION_OK}, {500, STATION_OK},
+        {STATION_LARGEST_LIMIT, STATION_OK}, {STATION_LARGEST_LIMIT + 1, STATION_LIMIT}, {(uint64_t)1 << 32, STATION_LIMIT}, {((uint64_t)1 << 32) + 1, STATION_LIMIT}, {UINT64_MAX, STATION_LIMIT},
+    };
+    const answer zeros = {.marked = 1, .steps = STATION_LEVELS * STATION_COLUMNS * BITS};
+    for (size_t i = 0; i < sizeof cases / sizeof cases[0]; i++) {
+        uint8_t soft[STATION_SOFT_LEN] = {0};
+        unsigned number = cases[i].number;
+        decode("decode, limit", soft, sizeof soft, cases[i].limit, STATION_DATA_LEN, STATION_REPORT_LEN, number, 0, number == STATION_OK ? &zeros : NULL);
+        soft[977] = 8;
+        int asked = number == STATION_LIMIT;
+        decode("decode, limit and soft value", soft, sizeof soft, cases[i].limit, STATION_DATA_LEN, STATION_REPORT_LEN, asked ? STATION_LIMIT : STATION_VALUE, asked ? 0 : 977, NULL);
     }
 }
 
@@ -181,8 +207,8 @@ static void bytes_of(const char *text, uint8_t *to, size_t n) {
 }
 
 /* An answered page: its data, its report and the header's readers. Each mark has as many ones as its total, none at bit 63, and no column is both changed and erased. */
-static void answered(const char *name, const uint8_t *soft, const answer *told) {
-    decode(name, soft, STATION_SOFT_LEN, STATION_DATA_LEN, STATION_REPORT_LEN, STATION_OK, 0, told);
+static void answered(const char *name, const uint8_t *soft, uint64_t limit, const answer *told) {
+    decode(name, soft, STATION_SOFT_LEN, limit, STATION_DATA_LEN, STATION_REPORT_LEN, STATION_OK, 0, told);
     const uint8_t *r = bytes(&report);
     int same = station_steps(r) == told->steps;
     for (unsigned i = 0; i < STATION_LEVELS; i++) {
@@ -201,11 +227,11 @@ static void add_word(uint8_t *column, uint32_t word) {
 }
 
 /* A page whose columns are known. Column 0 reads as nothing. Column 33 is read with the level-1 word of symbol 1 added: changed at level 1, and spent at levels 2 and 3, where that word stays in
-   it. Column 62 is read with the level-3 word of symbol 1 added: changed at level 3 alone. */
-static void known_columns(void) {
-    enum { LEVEL_1_WORD = 5433, LEVEL_3_WORD = 31139703, LIMIT = 500 };
+   it, with a limit up to 500. Column 62 is read with the level-3 word of symbol 1 added: changed at level 3 alone. */
+static void known_columns(uint64_t limit) {
+    enum { LEVEL_1_WORD = 5433, LEVEL_3_WORD = 31139703 };
     uint8_t page[STATION_PAGE_LEN], soft[STATION_SOFT_LEN];
-    answer told = {.marked = 1, .steps = 2 * (62 * BITS + LIMIT) + 2 * (61 * BITS + 2 * LIMIT)};
+    answer told = {.marked = 1, .steps = 2 * (62 * BITS + limit) + 2 * (61 * BITS + 2 * limit)};
     for (int i = 0; i < STATION_DATA_LEN; i++) told.data[i] = (uint8_t)(37 * i + 11);
     for (int i = 0; i < STATION_LEVELS; i++) {
         told.totals[2 * i + 1] = i < 2 ? 1 : 2;
@@ -220,11 +246,25 @@ static void known_columns(void) {
     memset(soft, 3, BITS);
     add_word(soft + 33 * BITS, LEVEL_1_WORD);
     add_word(soft + 62 * BITS, LEVEL_3_WORD);
-    answered("known columns", soft, &told);
+    answered("known columns", soft, limit, &told);
+}
+
+/* The page of zeros, read surely but for soft 7 at position 0 of column 0. Its search takes 347 steps at level 0 and 1020, 717 and 1177 at the others: with 500 the column keeps its answer at
+   level 0, the zero word, with the default it is spent there too. */
+static void seven_at_position_0(uint64_t limit) {
+    static const uint64_t taken[STATION_LEVELS] = {347, 1020, 717, 1177};
+    uint8_t soft[STATION_SOFT_LEN] = {7};
+    answer told = {.marked = 1, .steps = STATION_LEVELS * 62 * BITS};
+    for (int i = 0; i < STATION_LEVELS; i++) {
+        int spent = taken[i] > limit;
+        told.steps += spent ? limit : taken[i];
+        told.totals[2 * i + 1] = told.marks[2 * i + 1] = (uint64_t)spent;
+    }
+    answered("soft 7 at position 0", soft, limit, &told);
 }
 
 /* The rest of an expect line after `ok`. In reports.txt the steps are followed by a low point, which the station does not tell, and each total by its mark. */
-static void expected(const char *name, char *at, int marked, const uint8_t *soft, const uint8_t *data) {
+static void expected(const char *name, char *at, int marked, const uint8_t *soft, uint64_t limit, const uint8_t *data) {
     answer told = {.marked = marked, .steps = strtoul(at, &at, 10)};
     if (marked && !strncmp(at, " low ", 5)) strtol(at + 5, &at, 10);
     for (int k = 0; k < 2 * STATION_LEVELS; k++) {
@@ -234,15 +274,15 @@ static void expected(const char *name, char *at, int marked, const uint8_t *soft
     if (!strcmp(at, " same")) memcpy(told.data, data, STATION_DATA_LEN);
     else if (strlen(at) == 1 + 2 * STATION_DATA_LEN) bytes_of(at + 1, told.data, STATION_DATA_LEN);
     else check(0, "an expect line", 0);
-    answered(name, soft, &told);
+    answered(name, soft, limit, &told);
 }
 
-/* pages.txt or reports.txt, whose forms are in tests/vectors/README.md: the lines of the supercode decoder with limit 500. Gives how many pages are refused after level 0, when their first
-   rows are already decoded. */
+/* pages.txt or reports.txt, whose forms are in tests/vectors/README.md: the lines of the supercode decoder. Gives how many pages are refused after level 0, when their first rows are already
+   decoded. */
 static unsigned long pages(const char *folder, const char *text, int marked) {
     static char path[LINE], line[LINE], name[LINE];
     static uint8_t data[STATION_DATA_LEN], page[STATION_PAGE_LEN], soft[STATION_SOFT_LEN];
-    const char *mode = marked ? "expect super 500 - " : "expect super 500 ";
+    static const char mode[] = "expect super ";
     unsigned number;
     unsigned long place, late = 0, lines = 0;
     snprintf(path, sizeof path, "%s/%s", folder, text);
@@ -258,10 +298,12 @@ static unsigned long pages(const char *folder, const char *text, int marked) {
         if (!strncmp(line, "soft ", 5)) for (int i = 0; i < STATION_SOFT_LEN && line[5 + i]; i++) soft[i] = (uint8_t)(line[5 + i] - '0');
         if (strncmp(line, mode, strlen(mode))) continue;
         char *rest = line + strlen(mode);
+        uint64_t limit = strtoull(rest, &rest, 10);
+        rest += marked ? strlen(" - ") : strlen(" ");
         lines++;
-        if (!strncmp(rest, "ok ", 3)) expected(name, rest + 3, marked, soft, data);
+        if (!strncmp(rest, "ok ", 3)) expected(name, rest + 3, marked, soft, limit, data);
         else if (sscanf(rest, "refused %u %lu", &number, &place) == 2) {
-            decode(name, soft, sizeof soft, STATION_DATA_LEN, STATION_REPORT_LEN, number, place, NULL);
+            decode(name, soft, sizeof soft, limit, STATION_DATA_LEN, STATION_REPORT_LEN, number, place, NULL);
             late += number == STATION_NO_WORD && place > 0;
         } else check(0, "an expect line", 0);
     }
@@ -270,14 +312,59 @@ static unsigned long pages(const char *folder, const char *text, int marked) {
     return late;
 }
 
+/* A dump, read and decoded: with 500, as the dump service names it, into what readpage printed before its default became 200, and with the default into what it prints now. */
+static void listed(const char *folder, const char *name) {
+    static uint8_t dump[ROOM + 1], soft[STATION_SOFT_LEN], data[STATION_DATA_LEN], told[STATION_REPORT_LEN];
+    char path[LINE], text[LISTING];
+    snprintf(path, sizeof path, "%s/dumps/%s", folder, name);
+    FILE *file = fopen(path, "rb");
+    size_t len = file ? fread(dump, 1, sizeof dump, file) : 0;
+    if (file) fclose(file);
+    uint64_t read = station_read_dump(dump, len, soft, sizeof soft);
+    for (int k = 0; k < LISTINGS; k++) {
+        uint64_t r = read ? read : station_decode_page_limit(soft, sizeof soft, listings[k].limit, data, sizeof data, told, sizeof told);
+        paged p = {.number = station_number(r), .place = station_place(r), .steps = station_steps(told)};
+        for (unsigned i = 0; i < STATION_LEVELS; i++) {
+            p.changed[i] = (uint8_t)station_changed(told, i);
+            p.erased[i] = (uint8_t)station_erased(told, i);
+            p.changed_marks[i] = station_changed_mark(told, i);
+            p.erased_marks[i] = station_erased_mark(told, i);
+        }
+        listing(&p, data, text);
+        snprintf(path, sizeof path, "%s/dumps/%.*s%s", folder, (int)strlen(name) - 3, name, listings[k].suffix);
+        check(holds_text(path, text), path, r);
+    }
+}
+
+static void stored_dumps(const char *folder) {
+    char path[LINE];
+    unsigned long found = 0;
+    snprintf(path, sizeof path, "%s/dumps", folder);
+    DIR *dir = opendir(path);
+    for (struct dirent *entry; dir && (entry = readdir(dir));) {
+        size_t n = strlen(entry->d_name);
+        if (n < 5 || strcmp(entry->d_name + n - 4, ".bin")) continue;
+        listed(folder, entry->d_name);
+        found++;
+    }
+    if (dir) closedir(dir);
+    check(found > 0, path, 0);
+}
+
 int main(int argc, char **argv) {
     const char *folder = argc > 1 ? argv[1] : "tests/vectors";
     lengths();
     soft_values();
+    limits();
     dumps();
-    known_columns();
+    known_columns(STATION_DEFAULT_LIMIT);
+    known_columns(500);
+    seven_at_position_0(STATION_DEFAULT_LIMIT);
+    seven_at_position_0(500);
+    seven_at_position_0(STATION_LARGEST_LIMIT);
     check(pages(folder, "pages.txt", 0) > 0, "a page refused after level 0", 0);
     pages(folder, "reports.txt", 1);
+    stored_dumps(folder);
     printf("%lu checked, %lu differ\n", checked, differ);
     return differ != 0;
 }

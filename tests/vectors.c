@@ -1,8 +1,7 @@
 /* Checks the vector files of a folder through the test entries: a line a file, then `N checked, M differ`.
    The formats are those of tests/vectors/README.md. Lines of calls that the store does not have yet are counted as left, in files of other names too. */
-#include "entries.h"
+#include "listing.h"
 #include <dirent.h>
-#include <inttypes.h>
 #include <stdio.h>
 #include <stdlib.h>
 #include <string.h>
@@ -312,42 +311,26 @@ static tally check_file(const char *folder, const char *name, verdict (*line_of)
     return t;
 }
 
-/* dumps/: NAME.bin is what readpage reads, NAME.out what it prints; where the outputs after several requests are kept, NAME.point6.out. */
-static verdict dump_file(const char *folder, const char *name) {
+/* A dump of dumps/, read and decoded with the limit of each of its stored listings: how many of them differ. */
+static unsigned long dump_file(const char *folder, const char *name) {
     static uint8_t in[2 * LINE], soft[SOFT], data[DATA];
-    char path[4096], expected[LINE], found[LINE];
-    size_t stem = strlen(name) - 4;
+    char path[4096], text[LISTING];
+    unsigned long differ = 0;
     snprintf(path, sizeof path, "%s/dumps/%s", folder, name);
     FILE *file = fopen(path, "rb");
-    if (!file) return DIFFERS;
-    size_t n = fread(in, 1, sizeof in, file);
-    fclose(file);
-    snprintf(path, sizeof path, "%s/dumps/%.*s.out", folder, (int)stem, name);
-    if (!(file = fopen(path, "rb"))) {
-        snprintf(path, sizeof path, "%s/dumps/%.*s.point6.out", folder, (int)stem, name);
-        file = fopen(path, "rb");
-    }
-    if (!file) return DIFFERS;
-    expected[fread(expected, 1, sizeof expected - 1, file)] = 0;
-    fclose(file);
+    size_t n = file ? fread(in, 1, sizeof in, file) : 0;
+    if (file) fclose(file);
     filled f = entry_read_dump(in, n, soft, SOFT);
-    paged p = {0};
-    if (!f.number) {
-        p = entry_decode_page(soft, SOFT, 500, data, DATA);
-        f.number = p.number;
-        f.place = p.place;
+    for (int k = 0; k < LISTINGS; k++) {
+        paged p = {.number = f.number, .place = f.place};
+        if (!f.number) p = entry_decode_page(soft, SOFT, listings[k].limit, data, DATA);
+        listing(&p, data, text);
+        snprintf(path, sizeof path, "%s/dumps/%.*s%s", folder, (int)strlen(name) - 3, name, listings[k].suffix);
+        if (holds_text(path, text)) continue;
+        differ++;
+        printf("%s: differs\n", path);
     }
-    if (f.number) {
-        snprintf(found, sizeof found, "page refused %" PRIu64 " place %" PRIu64 "\n", f.number, f.place);
-    } else {
-        int at = snprintf(found, sizeof found, "page ok steps %" PRIu64 "\n", p.steps);
-        for (int i = 0; i < 4; i++)
-            at += snprintf(found + at, sizeof found - (size_t)at, "level %d changed %d %016" PRIx64 " erased %d %016" PRIx64 "\n", i, p.changed[i], p.changed_marks[i], p.erased[i], p.erased_marks[i]);
-        at += snprintf(found + at, sizeof found - (size_t)at, "data ");
-        for (int i = 0; i < DATA; i++) at += snprintf(found + at, sizeof found - (size_t)at, "%02x", data[i]);
-        snprintf(found + at, sizeof found - (size_t)at, "\n");
-    }
-    return strcmp(found, expected) ? DIFFERS : SAME;
+    return differ;
 }
 
 static const struct { const char *name; verdict (*line_of)(const record *); } texts[] = {
@@ -385,11 +368,8 @@ static tally check_dumps(const char *folder) {
     for (struct dirent *entry; (entry = readdir(dir));) {
         size_t n = strlen(entry->d_name);
         if (n < 5 || strcmp(entry->d_name + n - 4, ".bin")) continue;
-        t.checked++;
-        if (dump_file(folder, entry->d_name) == DIFFERS) {
-            t.differ++;
-            printf("%s/%s: differs\n", path, entry->d_name);
-        }
+        t.checked += LISTINGS;
+        t.differ += dump_file(folder, entry->d_name);
     }
     closedir(dir);
     printf("dumps: %lu checked, %lu differ\n", t.checked, t.differ);

@@ -6,14 +6,14 @@ use borrow.Author.Tests.{leb-false}
 use lib.Dec.{leb}
 use Rattle.questions.specs.Questions.{ask}
 
+-- by the answer
+pub by-answer : {A : Type 0} (P : A → Type 0) (t : Bool) (refusal next : A) → (t ≡ false → P refusal) → (t ≡ true → P next) → P (ask t refusal next)
+by-answer P true refusal next r n = n refl
+by-answer P false refusal next r n = r refl
+
 pub either : {A : Type 0} (P : A → Type 0) (t : Bool) (refusal next : A) → P refusal → P next → P (ask t refusal next)
-either P true refusal next r n = n
-either P false refusal next r n = r
+either P t refusal next r n = by-answer P t refusal next (λ e. r) (λ e. n)
 
 -- question 5 is refused with a place below the count of values
 pub first-bad : {A : Type 0} (P : A → Type 0) (count first : ℕ) (refusal next : A) → (first < count → P refusal) → P next → P (ask (leb count first) refusal next)
-first-bad P count first refusal next r n = go (leb count first) refl
-  where
-    go : (t : Bool) → leb count first ≡ t → P (ask t refusal next)
-    go true e = n
-    go false e = r (leb-false count first e)
+first-bad P count first refusal next r n = by-answer P (leb count first) refusal next (λ e. r (leb-false count first e)) (λ e. n)

@@ -13,7 +13,7 @@ use Rattle.page.specs.Outcomes.{outcomeOf, dataAfter}
 use Rattle.page.specs.declared.PageOutcome.{PageOutcome}
 use Rattle.page.specs.declared.Report.{Report}
 use Rattle.questions.specs.Questions.{firstAbove}
-use Rattle.store_pages.specs.Pages.{decodedPage, PageDecoded}
+use Rattle.store_pages.specs.Pages.{decodedPage, defaultLimit, PageDecoded}
 use Rattle.listing.specs.Lines.{refusedLine, pageText}
 use Rattle.readpage.specs.Report.{decodedText}
 
@@ -33,21 +33,21 @@ answered-text old (answered ls n) none = refl
 answered-text old (refused l) none = absurd (omega (arith, none))
 
 -- a call with nothing to refuse before page decoding
-module _ (s : Search) (soft old new : List ℕ) (r : PageOutcome) (decoded : PageDecoded s soft 500 old r new)
+module _ (s : Search) (soft old new : List ℕ) (r : PageOutcome) (decoded : PageDecoded s soft defaultLimit old r new)
     (long : length soft ≡ 1890) (room : length old ≡ 150) (five : leb 1890 (firstAbove soft 7) ≡ true) where
-  outcome : r ≡ outcomeOf (decodedPage s soft 500)
+  outcome : r ≡ outcomeOf (decodedPage s soft defaultLimit)
   outcome = decoded .answer ∙ simp (eq-eqb _ _ long, eq-eqb _ _ room, five)
 
-  bytes : new ≡ dataAfter old (decodedPage s soft 500)
+  bytes : new ≡ dataAfter old (decodedPage s soft defaultLimit)
   bytes = decoded .bytes ∙ simp (eq-eqb _ _ long, eq-eqb _ _ room, five)
 
-  pub text-of-refused : (r .number ≡ 0 → ⊥) → refusedLine (r .number) (r .place) ≡ decodedText (decodedPage s soft 500)
+  pub text-of-refused : (r .number ≡ 0 → ⊥) → refusedLine (r .number) (r .place) ≡ decodedText (decodedPage s soft defaultLimit)
   text-of-refused some =
       ap (λ (o : PageOutcome). refusedLine (o .number) (o .place)) outcome
-      ∙ refused-text (decodedPage s soft 500) (λ none. some (ap (λ (o : PageOutcome). o .number) outcome ∙ none))
+      ∙ refused-text (decodedPage s soft defaultLimit) (λ none. some (ap (λ (o : PageOutcome). o .number) outcome ∙ none))
 
-  pub text-of-answered : r .number ≡ 0 → reportText (r .report) new ≡ decodedText (decodedPage s soft 500)
+  pub text-of-answered : r .number ≡ 0 → reportText (r .report) new ≡ decodedText (decodedPage s soft defaultLimit)
   text-of-answered none =
       ap (λ (o : PageOutcome). reportText (o .report) new) outcome
-      ∙ ap (reportText (outcomeOf (decodedPage s soft 500) .report)) bytes
-      ∙ answered-text old (decodedPage s soft 500) (ap (λ (o : PageOutcome). o .number) (sym outcome) ∙ none)
+      ∙ ap (reportText (outcomeOf (decodedPage s soft defaultLimit) .report)) bytes
+      ∙ answered-text old (decodedPage s soft defaultLimit) (ap (λ (o : PageOutcome). o .number) (sym outcome) ∙ none)

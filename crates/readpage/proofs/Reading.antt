@@ -12,7 +12,7 @@ use Rattle.trellis.specs.Demand.{supercode}
 use Rattle.dump.specs.Dump.{softOf}
 use Rattle.questions.specs.Outcome.{after, Filled}
 use Rattle.store_dumps.specs.Dumps.{readAnswer}
-use Rattle.store_pages.specs.Pages.{decodedPage}
+use Rattle.store_pages.specs.Pages.{decodedPage, defaultLimit}
 use Rattle.questions.specs.Questions.{firstAbove}
 use Rattle.questions.specs.declared.Outcome.{Outcome}
 use Rattle.questions.specs.declared.Outcome.the-variants.{Done, Refused}
@@ -40,14 +40,14 @@ counted {r} {new = new} p room =
     (inside, sym (length-take-le r new inside))
 
 pub output-read : (dump new : List ℕ) (r : Outcome) → Filled (readAnswer dump (replicate 1890 0)) (softOf dump) (replicate 1890 0) r new → r ≡ Done
-    → decodedText (decodedPage supercode new 500) ≡ outputOf dump
+    → decodedText (decodedPage supercode new defaultLimit) ≡ outputOf dump
 unfolding outputOf
 output-read dump new r filled done =
-    ap (λ (l : List ℕ). decodedText (decodedPage supercode l 500)) (soft-read filled done)
-    ∙ ap (λ (o : Outcome). readText o (decodedText (decodedPage supercode (softOf dump) 500))) (sym done ∙ filled .answer)
+    ap (λ (l : List ℕ). decodedText (decodedPage supercode l defaultLimit)) (soft-read filled done)
+    ∙ ap (λ (o : Outcome). readText o (decodedText (decodedPage supercode (softOf dump) defaultLimit))) (sym done ∙ filled .answer)
 
 pub output-refused : (dump new : List ℕ) (r : Outcome) (n p : ℕ) → Filled (readAnswer dump (replicate 1890 0)) (softOf dump) (replicate 1890 0) r new → r ≡ Refused n p
     → refusedLine n p ≡ outputOf dump
 unfolding outputOf
 output-refused dump new r n p filled refused =
-    ap (λ (o : Outcome). readText o (decodedText (decodedPage supercode (softOf dump) 500))) (sym refused ∙ filled .answer)
+    ap (λ (o : Outcome). readText o (decodedText (decodedPage supercode (softOf dump) defaultLimit))) (sym refused ∙ filled .answer)

@@ -10,7 +10,7 @@ use Rattle.concatenated.specs.Written.{bytesOfRows}
 use Rattle.concatenated.specs.Marks.{changedMarks, erasedMarks}
 use Rattle.page.specs.Outcomes.{changedTotals, erasedTotals}
 use Rattle.store_dumps.specs.Dumps.{readAnswer}
-use Rattle.store_pages.specs.Pages.{decodedPage}
+use Rattle.store_pages.specs.Pages.{decodedPage, defaultLimit}
 use Rattle.questions.specs.declared.Outcome.{Outcome}
 use Rattle.questions.specs.declared.Outcome.the-variants.{Done, Refused}
 use Rattle.listing.specs.Lines.{refusedLine, pageText}
@@ -25,6 +25,6 @@ abbrev pub readText : Outcome → List ℕ → List ℕ
 readText Done text = text
 readText (Refused n p) text = refusedLine n p
 
--- "Its decoding and the program use the supercode search with limit 500"
+-- "Its decoding and the program use the supercode search"; 02, point 9: with the default limit
 unfoldable pub outputOf : List ℕ → List ℕ
-outputOf dump = readText (readAnswer dump (replicate 1890 0)) (decodedText (decodedPage supercode (softOf dump) 500))
+outputOf dump = readText (readAnswer dump (replicate 1890 0)) (decodedText (decodedPage supercode (softOf dump) defaultLimit))

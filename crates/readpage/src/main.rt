@@ -8,21 +8,22 @@ ghost use lib.ListN.{length, take};
 ghost use Rattle.io.specs.Counts.{Counts};
 ghost use Rattle.trellis.specs.Demand.{supercode};
 ghost use Rattle.questions.specs.Questions.{firstAbove};
-ghost use Rattle.store_pages.specs.Pages.{decodedPage};
+ghost use Rattle.store_pages.specs.Pages.{decodedPage, defaultLimit};
 ghost use Rattle.listing.specs.Text.{Appended};
 ghost use Rattle.readpage.specs.Report.{decodedText};
 ghost use Rattle.readpage.specs.Input.{PrintedFor};
 use libc::STDIN_FILENO;
 use libc::STDOUT_FILENO;
 use questions::Outcome;
+use store_pages::DEFAULT_LIMIT;
 
 // The lines of a soft page, each value 0..7.
 fn page_text(soft: &[u8], out: &mut [u8]) -> usize
     requires { ⌜ (length (now soft) ≡ 1890) × (leb 1890 (firstAbove (now soft) 7) ≡ true) × (813 ≤ length (now out)) ⌝ }
-    ensures { λ r. ⌜ Appended 0 (decodedText (decodedPage supercode (now (soft .entry)) 500)) 813 (now (out .entry)) r (now (out .exit)) ⌝ }
+    ensures { λ r. ⌜ Appended 0 (decodedText (decodedPage supercode (now (soft .entry)) defaultLimit)) 813 (now (out .entry)) r (now (out .exit)) ⌝ }
 {
     let mut data = [0u8; 150];
-    let page = store_pages::decode_page(soft, 500, &mut data);
+    let page = store_pages::decode_page(soft, DEFAULT_LIMIT, &mut data);
     if page.number != 0 {
         return listing::append_refused(page.number, page.place, out, 0);
     }

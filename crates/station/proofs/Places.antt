@@ -88,4 +88,4 @@ module _ (S : Shape) (outer : RowDecoder) (read : Reader) (page : List (List ℕ
   decoded-small few = outcome-small (levels S) few (run S outer read page (levels S)) (run-below (levels S))
 
 pub page-small : (s : Search) (soft : List ℕ) (limit : ℕ) (out : List ℕ) → SmallPage (askPage soft limit out refusedPage (outcomeOf (decodedPage s soft limit)))
-page-small s soft limit out = every-way soft limit out SmallPage refusedPage (outcomeOf (decodedPage s soft limit)) (λ n p some few near. (few, near)) (decoded-small _ _ _ _ (omega arith))
+page-small s soft limit out = every-way soft limit out SmallPage refusedPage (outcomeOf (decodedPage s soft limit)) (λ n p some few near. (few, near)) (λ most. decoded-small _ _ _ _ (omega arith))

@@ -20,7 +20,7 @@ use Rattle.store_pages.specs.Reports.{Marked}
 use Rattle.store_pages.proofs.Asked.{every-way}
 use Rattle.store_pages.proofs.Reports.{refusals-are-marked, answers-are-marked}
 use Rattle.station.specs.Report.{totalBytes, stepsAndTotals, reportBytes, changedTotalIn, erasedTotalIn, Holds}
-use Rattle.station.specs.PageReturned.{limit, decodeAnswer, PageReturned}
+use Rattle.station.specs.PageReturned.{decodeAnswer, PageReturned}
 use Rattle.station.proofs.Bytes.{number-comes-back, changed-part, erased-part}
 use Rattle.station.proofs.Marking.{front-length}
 use Rattle.station.proofs.Steps.{steps-are-few}
@@ -28,12 +28,12 @@ use Rattle.station.proofs.Steps.{steps-are-few}
 abbrev ReportMarked : PageOutcome → Type 0
 ReportMarked o = Marked (o .report)
 
-answer-is-marked : (soft bytes report : List ℕ) → ReportMarked (decodeAnswer soft bytes report)
-answer-is-marked soft bytes report =
+answer-is-marked : (soft : List ℕ) (limit : ℕ) (bytes report : List ℕ) → ReportMarked (decodeAnswer soft limit bytes report)
+answer-is-marked soft limit bytes report =
     either ReportMarked (eqb (length soft) 1890) _ _ refusals-are-marked
     (either ReportMarked (eqb (length report) 76) _ _ refusals-are-marked
     (every-way soft limit bytes ReportMarked refusedPage (outcomeOf (decodedPage supercode soft limit)) (λ n p some few near. refusals-are-marked)
-    (answers-are-marked supercode soft limit (decodedPage supercode soft limit) refl)))
+    (λ most. answers-are-marked supercode soft limit (decodedPage supercode soft limit) refl)))
 
 totals-in : (r : Report) (level : ℕ) → level < 4 → (changedTotalIn (reportBytes r) level ≡ getD (r .changed) level 0) × (erasedTotalIn (reportBytes r) level ≡ getD (r .erased) level 0)
 unfolding digits
@@ -62,10 +62,10 @@ bytes-hold r few marked =
     }
 
 -- the entry returned 0: the report that it left holds that of the page
-pub report-is-read-back : (soft bytes report : List ℕ) (r : ℕ) (newBytes newReport : List ℕ) → PageReturned soft bytes report r newBytes newReport → r ≡ 0
-    → Holds newReport (decodeAnswer soft bytes report .report)
-report-is-read-back soft bytes report r newBytes newReport returned done =
-    let d = decodeAnswer soft bytes report in
+pub report-is-read-back : (soft : List ℕ) (limit : ℕ) (bytes report : List ℕ) (r : ℕ) (newBytes newReport : List ℕ) → PageReturned soft limit bytes report r newBytes newReport → r ≡ 0
+    → Holds newReport (decodeAnswer soft limit bytes report .report)
+report-is-read-back soft limit bytes report r newBytes newReport returned done =
+    let d = decodeAnswer soft limit bytes report in
     let answered : d .number ≡ 0 = omega (arith, returned .answer, done) in
     let is : newReport ≡ reportBytes (d .report) = returned .report-is ∙ simp (eq-eqb _ _ answered) in
-    subst⁻¹ (λ (x : List ℕ). Holds x (d .report)) is (bytes-hold (d .report) (omega (arith, steps-are-few soft bytes report)) (answer-is-marked soft bytes report))
+    subst⁻¹ (λ (x : List ℕ). Holds x (d .report)) is (bytes-hold (d .report) (omega (arith, steps-are-few soft limit bytes report)) (answer-is-marked soft limit bytes report))

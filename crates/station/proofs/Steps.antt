@@ -21,7 +21,7 @@ use Rattle.concatenated.proofs.SoftPages.{as-many-columns}
 use Rattle.questions.proofs.EitherWay.{either}
 use Rattle.store_pages.specs.Pages.{decodedPage}
 use Rattle.store_pages.proofs.Asked.{every-way}
-use Rattle.station.specs.PageReturned.{limit, decodeAnswer}
+use Rattle.station.specs.PageReturned.{decodeAnswer}
 
 row-off-within : (S : Shape) (i : ℕ) (r : List ℕ) (cs : List (List ℕ)) → length (rowOff S i r cs) ≤ length cs
 unfolding rowOff
@@ -29,13 +29,13 @@ row-off-within S i [] cs = omega arith
 row-off-within S i (s ∷ r) [] = omega arith
 row-off-within S i (s ∷ r) (c ∷ cs) = omega (arith, row-off-within S i r cs)
 
--- a run up to level k: at most 63 columns, and at most 500 steps for each of them at each level
+-- a run up to level k: at most 63 columns, and at most 2000 steps for each of them at each level
 abbrev Within : ℕ → State → Type 0
-Within k (going cs ls n) = (length cs ≤ 63) × (n ≤ 31500 * k)
+Within k (going cs ls n) = (length cs ≤ 63) × (n ≤ 126000 * k)
 Within k (stopped l) = Unit {0}
 
-module _ (S : Shape) (outer : RowDecoder) (read : Reader) (few : (i : ℕ) (c : List ℕ) → i < levels S → count (read i c) ≤ 500) (page : List (List ℕ)) (wide : length page ≤ 63) where
-  steps-within : (i : ℕ) → i < levels S → (cs : List (List ℕ)) → steps (map (read i) cs) ≤ 500 * length cs
+module _ (S : Shape) (outer : RowDecoder) (read : Reader) (few : (i : ℕ) (c : List ℕ) → i < levels S → count (read i c) ≤ 2000) (page : List (List ℕ)) (wide : length page ≤ 63) where
+  steps-within : (i : ℕ) → i < levels S → (cs : List (List ℕ)) → steps (map (read i) cs) ≤ 2000 * length cs
   unfolding sum
   steps-within i h [] = omega arith
   steps-within i h (c ∷ cs) = omega (arith, few i c h, steps-within i h cs)
@@ -55,22 +55,22 @@ module _ (S : Shape) (outer : RowDecoder) (read : Reader) (few : (i : ℕ) (c : 
   run-within zero h = (wide, omega arith)
   run-within (suc i) h = onward-within i h (run S outer read page i) (run-within i (omega arith))
 
-  outcome-within : (k : ℕ) → k ≤ 4 → (x : State) → Within k x → outcomeOf (outcome x) .report .steps ≤ 126000
+  outcome-within : (k : ℕ) → k ≤ 4 → (x : State) → Within k x → outcomeOf (outcome x) .report .steps ≤ 504000
   unfolding outcome outcomeOf
   outcome-within k h (going cs ls n) w = omega (arith, w .1)
   outcome-within k h (stopped l) w = omega arith
 
-  decoded-within : levels S ≤ 4 → outcomeOf (decoded S outer read page) .report .steps ≤ 126000
+  decoded-within : levels S ≤ 4 → outcomeOf (decoded S outer read page) .report .steps ≤ 504000
   unfolding decoded
   decoded-within h = outcome-within (levels S) h (run S outer read page (levels S)) (run-within (levels S) (omega arith))
 
 abbrev pub FewSteps : PageOutcome → Type 0
-FewSteps o = o .report .steps ≤ 126000
+FewSteps o = o .report .steps ≤ 504000
 
--- 01: "all counts summed, a spent column counting the limit": 63 columns at four levels, 500 each
-pub steps-are-few : (soft bytes report : List ℕ) → FewSteps (decodeAnswer soft bytes report)
-steps-are-few soft bytes report =
+-- 01: "all counts summed, a spent column counting the limit": 63 columns at four levels, a limit up to 2000 each
+pub steps-are-few : (soft : List ℕ) (limit : ℕ) (bytes report : List ℕ) → FewSteps (decodeAnswer soft limit bytes report)
+steps-are-few soft limit bytes report =
     either FewSteps (eqb (length soft) 1890) _ _ (omega arith)
     (either FewSteps (eqb (length report) 76) _ _ (omega arith)
     (every-way soft limit bytes FewSteps refusedPage (outcomeOf (decodedPage supercode soft limit)) (λ n p some few near. omega arith)
-    (decoded-within short shortOuter (shortReader supercode limit) (λ i c h. count-within-the-limit supercode limit i h c) (softColumns shortPage soft) (omega (arith, as-many-columns shortPage soft)) (omega arith))))
+    (λ most. decoded-within short shortOuter (shortReader supercode limit) (λ i c h. omega (arith, count-within-the-limit supercode limit i h c, most)) (softColumns shortPage soft) (omega (arith, as-many-columns shortPage soft)) (omega arith))))

@@ -1,4 +1,4 @@
-// The station's C interface: 01, "The station's interface". Three entries on byte slices, thin over the public calls; c/station.h declares them.
+// The station's C interface: 01, "The station's interface". Four entries on byte slices, thin over the public calls; c/station.h declares them.
 // Each returns number + 256 · place, 0 for success, and a refused one changes no byte that it was lent.
 ghost use mathlib.Core.List.{_++_};
 ghost use mathlib.Core.Path.{_≡_};
@@ -9,7 +9,7 @@ ghost use Rattle.concatenated.specs.Data.{digits};
 ghost use Rattle.concatenated.specs.Format.{shortPage};
 ghost use Rattle.concatenated.specs.Written.{writtenPage};
 ghost use Rattle.concatenated.specs.OuterCode.{shortEncoder};
-ghost use Rattle.store_pages.specs.Pages.{encodePageAnswer};
+ghost use Rattle.store_pages.specs.Pages.{encodePageAnswer, defaultLimit};
 ghost use Rattle.store_dumps.specs.Dumps.{readAnswer};
 ghost use Rattle.questions.specs.Outcome.{number, place};
 ghost use Rattle.station.specs.Returned.{returned, Returned};
@@ -17,6 +17,7 @@ ghost use Rattle.station.specs.Report.{markBytes, stepsAndTotals};
 ghost use Rattle.station.specs.PageReturned.{PageReturned};
 use page::Report;
 use questions::Outcome;
+use store_pages::DEFAULT_LIMIT;
 
 // A number and a place as one number.
 fn returned_number(number: u64, place: u64) -> u64
@@ -103,10 +104,15 @@ fn write_marks(changed: [u64; 4], erased: [u64; 4], out: &mut [u8])
     }
 }
 
-// Decodes a soft page of 1,890 values, by the supercode search with limit 500, into `data`, of 150 bytes, and `report`, of 76. Refused by 1, 2, 5 and 10, whose place is the level.
+// Decodes a soft page of 1,890 values, by the supercode search with the given limit, into `data`, of 150 bytes, and `report`, of 76. Refused by 1, 2, 4, 5 and 10, whose place is the level.
 #[no_mangle]
-pub extern "C" fn station_decode_page(soft: &[u8], data: &mut [u8], report: &mut [u8]) -> u64
-    ensures { λ r. ⌜ PageReturned (now (soft .entry)) (now («data» .entry)) (now (report .entry)) r (now («data» .exit)) (now (report .exit)) ⌝ }
+pub extern "C" fn station_decode_page_limit(
+    soft: &[u8],
+    limit: u64,
+    data: &mut [u8],
+    report: &mut [u8],
+) -> u64
+    ensures { λ r. ⌜ PageReturned (now (soft .entry)) limit (now («data» .entry)) (now (report .entry)) r (now («data» .exit)) (now (report .exit)) ⌝ }
 {
     if soft.len() != 1890 {
         return returned_number(1, 0);
@@ -114,7 +120,7 @@ pub extern "C" fn station_decode_page(soft: &[u8], data: &mut [u8], report: &mut
     if report.len() != 76 {
         return returned_number(2, 0);
     }
-    let outcome = store_pages::decode_page(soft, 500, data);
+    let outcome = store_pages::decode_page(soft, limit, data);
     let number = outcome.number;
     let place = outcome.place;
     if number != 0 {
@@ -127,4 +133,12 @@ pub extern "C" fn station_decode_page(soft: &[u8], data: &mut [u8], report: &mut
     bytes::copy(&front, report);
     write_marks(changed, erased, report);
     returned_number(number, place)
+}
+
+// The same with the default limit.
+#[no_mangle]
+pub extern "C" fn station_decode_page(soft: &[u8], data: &mut [u8], report: &mut [u8]) -> u64
+    ensures { λ r. ⌜ PageReturned (now (soft .entry)) defaultLimit (now («data» .entry)) (now (report .entry)) r (now («data» .exit)) (now (report .exit)) ⌝ }
+{
+    station_decode_page_limit(soft, DEFAULT_LIMIT, data, report)
 }

@@ -3,14 +3,14 @@ use mathlib.Core.List.{List}
 use mathlib.Core.Path.{_≡_, ap₂, _∙_}
 use Prim.Native.Nat.{ℕ, _≤_, _<_}
 use native.Mathlib.Omega.{arith}
-use borrow.Author.Tests.{eq-eqb, ne-eqb, le-leb, lt-leb}
+use borrow.Author.Tests.{eq-eqb, ne-eqb, le-leb, lt-leb, leb-true}
 use lib.Dec.{eqb, leb}
 use lib.ListN.{length}
 use Rattle.trellis.specs.Demand.{Search}
 use Rattle.page.specs.Outcomes.{refusedPage, outcomeOf, dataAfter}
 use Rattle.page.specs.declared.PageOutcome.{PageOutcome}
 use Rattle.questions.specs.Questions.{firstAbove}
-use Rattle.questions.proofs.EitherWay.{either, first-bad}
+use Rattle.questions.proofs.EitherWay.{by-answer, either, first-bad}
 use Rattle.store_pages.specs.Pages.{askPage, decodedPage, PageDecoded}
 
 module _ (soft : List ℕ) (limit : ℕ) (old : List ℕ) where
@@ -48,11 +48,11 @@ module _ (soft : List ℕ) (limit : ℕ) (old : List ℕ) where
         bytes = b ∙ all-yes long room some most good (List ℕ) (λ n p. old) (dataAfter old (decodedPage s soft limit));
       }
 
-  -- what holds of every refusal, of a number 1..10 and a place up to 1890, and of what follows holds whatever is answered
-  pub every-way : {A : Type 0} (P : A → Type 0) (refusal : ℕ → ℕ → A) (next : A) → ((n p : ℕ) → 1 ≤ n → n ≤ 10 → p ≤ 1890 → P (refusal n p)) → P next → P (askPage soft limit old refusal next)
+  -- what holds of every refusal, of a number 1..10 and a place up to 1890, and of what follows, with a limit up to 2000, holds whatever is answered
+  pub every-way : {A : Type 0} (P : A → Type 0) (refusal : ℕ → ℕ → A) (next : A) → ((n p : ℕ) → 1 ≤ n → n ≤ 10 → p ≤ 1890 → P (refusal n p)) → (limit ≤ 2000 → P next) → P (askPage soft limit old refusal next)
   every-way P refusal next r n =
       either P (eqb (length soft) 1890) _ _ (r 1 0 (omega arith) (omega arith) (omega arith))
       (either P (eqb (length old) 150) _ _ (r 2 0 (omega arith) (omega arith) (omega arith))
       (either P (leb 1 limit) _ _ (r 4 0 (omega arith) (omega arith) (omega arith))
-      (either P (leb limit 2000) _ _ (r 4 0 (omega arith) (omega arith) (omega arith))
-      (first-bad P 1890 (firstAbove soft 7) _ _ (λ h. r 5 (firstAbove soft 7) (omega arith) (omega arith) (omega arith)) n))))
+      (by-answer P (leb limit 2000) _ _ (λ e. r 4 0 (omega arith) (omega arith) (omega arith)) (λ e.
+      first-bad P 1890 (firstAbove soft 7) _ _ (λ h. r 5 (firstAbove soft 7) (omega arith) (omega arith) (omega arith)) (n (leb-true limit 2000 e))))))

@@ -98,7 +98,7 @@ module _ (s : Search) (soft : List ℕ) (limit : ℕ) where
   pub reports-are-marked : (old : List ℕ) (r : PageOutcome) (new : List ℕ) → PageDecoded s soft limit old r new → Marked (r .report)
   reports-are-marked old r new call =
       subst⁻¹ (λ (o : PageOutcome). Marked (o .report)) (call .answer)
-      (every-way soft limit old (λ (o : PageOutcome). Marked (o .report)) refusedPage (outcomeOf (decodedPage s soft limit)) (λ n p some few near. refusals-are-marked) (answers-are-marked (decodedPage s soft limit) refl))
+      (every-way soft limit old (λ (o : PageOutcome). Marked (o .report)) refusedPage (outcomeOf (decodedPage s soft limit)) (λ n p some few near. refusals-are-marked) (λ most. answers-are-marked (decodedPage s soft limit) refl))
 
   answers-have-their-marks : (d : PageAnswer) → decodedPage s soft limit ≡ d → outcomeOf d .number ≡ 0 → MarksOf d (outcomeOf d .report)
   unfolding outcomeOf
@@ -109,7 +109,7 @@ module _ (s : Search) (soft : List ℕ) (limit : ℕ) where
   pub bits-are-the-columns : (old : List ℕ) (r : PageOutcome) (new : List ℕ) → PageDecoded s soft limit old r new → r .number ≡ 0 → MarksOf (decodedPage s soft limit) (r .report)
   bits-are-the-columns old r new call =
       subst⁻¹ HasMarks (call .answer)
-      (every-way soft limit old HasMarks refusedPage (outcomeOf D) (λ n p some few near z. absurd (omega (arith, some, z))) (answers-have-their-marks D refl))
+      (every-way soft limit old HasMarks refusedPage (outcomeOf D) (λ n p some few near z. absurd (omega (arith, some, z))) (λ most. answers-have-their-marks D refl))
     where
       D : PageAnswer
       D = decodedPage s soft limit

@@ -24,6 +24,10 @@ encodePageAnswer bytes out =
     (ask (eqb (length out) 252) (Refused 2 0)
     Done)
 
+-- 02, point 9: "Calls that name no limit, and `readpage`, now use 200"
+abbrev pub defaultLimit : ℕ
+defaultLimit = 200
+
 -- page decoding with one of the two searches for every column at every level
 abbrev pub decodedPage : Search → List ℕ → ℕ → PageAnswer
 decodedPage s soft limit = decoded short shortOuter (shortReader s limit) (softColumns shortPage soft)

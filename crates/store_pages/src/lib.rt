@@ -14,6 +14,9 @@ ghost use Rattle.store_pages.specs.Pages.{encodePageAnswer, PageDecoded}
 use page::PageOutcome;
 use questions::Outcome;
 
+// The limit of every call that names none: `defaultLimit` of specs/Pages.antt.
+pub const DEFAULT_LIMIT: u64 = 200;
+
 // The written page of 150 bytes of data. Refused by 1 and 2; `out` is then as it was.
 pub fn encode_page(data: &[u8], out: &mut [u8]) -> Outcome
     ensures { λ r. ⌜ Filled (encodePageAnswer (now («data» .entry)) (now (out .entry))) (writtenPage shortPage shortEncoder (now («data» .entry))) (now (out .entry)) r (now (out .exit)) ⌝ }

@@ -1,91 +1,19 @@
--- `station::station_decode_page` meets its contract: each return by what was asked on the way to it. Assumes nothing.
-use mathlib.Core.Path.{ap, _∙_}
-use lib.ListN.{length}
-use Rattle.station.proofs.Marking.{front-length, report-is}
-use Rattle.station.proofs.PageReturns.{refused-by-soft-length, refused-by-report-length, small, refused, answered}
-use native.Mathlib.Omega.{arith}
+-- `station::station_decode_page` meets its contract: it is the entry with a limit, at the default. Assumes nothing.
 use borrow.Author.Needs.{needs}
 use Rattle.station.proofs.station_decode_page.Statement.{statement}
 use Rattle.station.proofs.station_decode_page.Tie as tie
 
-returned-number-requires : tie.Need-returned-number-requires
-returned-number-requires c κs = (omega arith, omega arith)
-
-returns : tie.Need-returns
-returns c = refused-by-soft-length _ _ _ (c .before .if1 .taken) (c .returned-number .ensures)
-
-returned-number-requires-2 : tie.Need-returned-number-requires-2
-returned-number-requires-2 c κs = (omega arith, omega arith)
-
-returns-2 : tie.Need-returns-2
-returns-2 c = refused-by-report-length _ _ _ (c .before .before .if1 .left) (c .before .if2 .taken) (c .returned-number2 .ensures)
-
-decode-page-requires : tie.Need-decode-page-requires
-decode-page-requires c κs = search needs
-
-returned-number-requires-3 : tie.Need-returned-number-requires-3
-returned-number-requires-3 c κs = small (c .before .before .before .decode-page .ensures)
+station-decode-page-limit-requires : tie.Need-station-decode-page-limit-requires
+station-decode-page-limit-requires c κs = search needs
 
 same-length : tie.Need-same-length
 same-length c = search needs
 
-returns-3 : tie.Need-returns-3
-returns-3 c =
-    let page = c .before .before .before .before in
-    let asked = page .before .before in
-    refused _ _ _ (asked .before .if1 .left) (asked .if2 .left) _ _ (page .decode-page .ensures) (c .before .if3 .taken) (c .returned-number3 .ensures)
-
-steps-and-totals-requires : tie.Need-steps-and-totals-requires
-steps-and-totals-requires c κs = search needs
-
-slice-aggregate-copy : tie.Need-slice-aggregate-copy
-slice-aggregate-copy c = search needs
-
-copy-requires : tie.Need-copy-requires
-copy-requires c κs =
-    let made = c .before .before in
-    let page = made .before .before .before .before .before .before .before in
-    omega (arith, ap length (made .steps-and-totals .ensures) ∙ front-length (page .decode-page .result .report), page .before .before .if2 .left)
-
-write-marks-requires : tie.Need-write-marks-requires
-write-marks-requires c κs = c .before .before .report .given ∙ c .before .before .before .before .before .before .before .before .before .before .before .before .before .before .before .if2 .left
-
-returned-number-requires-4 : tie.Need-returned-number-requires-4
-returned-number-requires-4 c κs = small (c .before .before .before .before .before .before .before .before .before .before .before .before .before .before .before .before .decode-page .ensures)
-
 same-length-2 : tie.Need-same-length-2
 same-length-2 c = search needs
 
-same-length-3 : tie.Need-same-length-3
-same-length-3 c = search needs
-
-returns-4 : tie.Need-returns-4
-returns-4 c =
-    let written = c .before .before .before in
-    let copied = written .before .before .before .before in
-    let made = copied .before .before .before in
-    let page = made .before .before .before .before .before .before .before in
-    let asked = page .before .before in
-    answered _ _ _ (asked .before .if1 .left) (asked .if2 .left) _ _ (page .decode-page .ensures) (made .before .before .before .before .if3 .left) (c .returned-number4 .ensures) _
-    (report-is (page .decode-page .result .report) _ _ _ _ (made .steps-and-totals .ensures) (copied .copy .ensures .1) (written .write-marks .ensures))
+returns : tie.Need-returns
+returns c = c .before .before .before .before .station-decode-page-limit .ensures
 
 pub station-decode-page-spec : {M : Type 1} → statement M
-station-decode-page-spec =
-    tie.close
-    (tie.spec
-    returned-number-requires
-    returns
-    returned-number-requires-2
-    returns-2
-    decode-page-requires
-    returned-number-requires-3
-    same-length
-    returns-3
-    steps-and-totals-requires
-    slice-aggregate-copy
-    copy-requires
-    write-marks-requires
-    returned-number-requires-4
-    same-length-2
-    same-length-3
-    returns-4)
+station-decode-page-spec = tie.close (tie.spec station-decode-page-limit-requires same-length same-length-2 returns)
