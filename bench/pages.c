@@ -8,7 +8,8 @@
 
 enum { DATA = 150, WRITTEN = 252, SOFT = 1890, PAGES = 100, ROUNDS = 20, WAYS = 3, NO_WORD = 10 };
 
-/* Limits: the first decode's and that of a second one if the first is refused by 10; 0: no second decode. The default, the one that was it before, and the way that c/station.h advises. */
+/* Limits: the first decode's and that of a second one if the first is refused by 10; 0: no second decode. The default, the default before document 02's
+   point 9, and the way that c/station.h advises. */
 typedef struct { const char *name; int first, then; } limits;
 static const limits uses[] = {{"limit 200, the default", 200, 0}, {"limit 500", 500, 0}, {"limit 200, and 2000 if that is refused by 10", 200, 2000}};
 enum { USES = sizeof uses / sizeof uses[0] };

@@ -15,16 +15,16 @@
 
        STATION_INPUT_LENGTH    1   has the input the stated length?
        STATION_OUTPUT_LENGTH   2   has every output the stated length?
+       STATION_LIMIT           4   is the limit 1..STATION_LARGEST_LIMIT?
        STATION_FIXED_BYTES     7   are a dump block's fixed and zero bytes right?    place: the block, 0..3
        STATION_CHECK           8   is its check right? (7 and 8 go block by block)   place: the block, 0..3
-       STATION_LIMIT           4   is the limit 1..STATION_LARGEST_LIMIT?
        STATION_VALUE           5   is each soft value 0..7?                          place: the first bad one in the soft page, 0..1889
        STATION_NO_WORD        10   is there an outer word in reach?                  place: the level, 0..3
 
    The place is 0 where none is named.
 
-   LIMIT. Each column is searched at each level for at most so many steps; a column that has no word by then counts as erased. The call that
-   names no limit takes STATION_DEFAULT_LIMIT, which was 500 and is 200 now: worn pages take less time, and more of them are refused by 10.
+   LIMIT. The most steps that the search of a column takes at a level; a column that has no word by then counts as erased. The call that names
+   no limit takes STATION_DEFAULT_LIMIT, which was 500 and is 200 now: worn pages take less time, and more of them are refused by 10.
    Whoever counted on 500, as the dump service did, must name it: station_decode_page_limit(soft, soft_len, 500, ...).
 
    THREADS. The calls have no state and allocate nothing; they may run at the same time on different buffers.
@@ -71,16 +71,16 @@ enum {
    Refused by 1 and 2. */
 uint64_t station_encode_page(const uint8_t *data, size_t data_len, uint8_t *page, size_t page_len);
 
-/* Decodes a soft page of STATION_SOFT_LEN values, 30 a column; 0..3 read as bit 0 and 4..7 as bit 1, 0 and 7 being the surest. Each column is
-   searched for at most `limit` steps at each level. Gives STATION_DATA_LEN bytes of data and a report of STATION_REPORT_LEN bytes, which
-   station_steps, station_changed, station_erased, station_changed_mark and station_erased_mark read. Refused by 1, 2, 4, 5 and 10. */
+/* Decodes a soft page of STATION_SOFT_LEN values, 30 a column; 0..3 read as bit 0 and 4..7 as bit 1, 0 and 7 being the surest. Gives
+   STATION_DATA_LEN bytes of data and a report of STATION_REPORT_LEN bytes, which station_steps, station_changed, station_erased,
+   station_changed_mark and station_erased_mark read. Refused by 1, 2, 4, 5 and 10. */
 uint64_t station_decode_page_limit(const uint8_t *soft, size_t soft_len, uint64_t limit, uint8_t *data, size_t data_len, uint8_t *report, size_t report_len);
 
 /* The same with STATION_DEFAULT_LIMIT. Refused by 1, 2, 5 and 10.
 
-   A page that it refuses by 10 is not lost yet: decode it once more, with station_decode_page_limit and STATION_LARGEST_LIMIT. Without that
-   second decode the promise of fewer than one bad page in 10^16 ends at a raw bit error rate of 0.0013 %, with it at 0.032 %, and with
-   STATION_LARGEST_LIMIT from the start at 0.225 %, on the channel of docs/AGING.md. */
+   A page that it refuses by 10 is not lost yet: decode it once more, with station_decode_page_limit and STATION_LARGEST_LIMIT. That decode may
+   take ten times as many steps as the first. Without it the promise of fewer than one bad page in 10^16 ends at a raw bit error rate of
+   0.0013 %, with it at 0.032 %, and with STATION_LARGEST_LIMIT from the start at 0.225 %, on the channel of docs/AGING.md. */
 uint64_t station_decode_page(const uint8_t *soft, size_t soft_len, uint8_t *data, size_t data_len, uint8_t *report, size_t report_len);
 
 /* Reads the soft page of STATION_SOFT_LEN values out of a dump of STATION_DUMP_LEN bytes, four blocks of 512. Refused by 1, 2, 7, 8 and 5. */

@@ -3,7 +3,6 @@
    A refused call may change no byte of any buffer or of the bytes around it. Prints `N checked, M differ`; fails if one differs. */
 #include "../c/station.h"
 #include "listing.h"
-#include <dirent.h>
 #include <stdio.h>
 #include <stdlib.h>
 #include <string.h>
@@ -282,7 +281,7 @@ static void expected(const char *name, char *at, int marked, const uint8_t *soft
 static unsigned long pages(const char *folder, const char *text, int marked) {
     static char path[LINE], line[LINE], name[LINE];
     static uint8_t data[STATION_DATA_LEN], page[STATION_PAGE_LEN], soft[STATION_SOFT_LEN];
-    static const char mode[] = "expect super ";
+    const char *mode = "expect super ", *before = marked ? " - " : " ";
     unsigned number;
     unsigned long place, late = 0, lines = 0;
     snprintf(path, sizeof path, "%s/%s", folder, text);
@@ -299,8 +298,8 @@ static unsigned long pages(const char *folder, const char *text, int marked) {
         if (strncmp(line, mode, strlen(mode))) continue;
         char *rest = line + strlen(mode);
         uint64_t limit = strtoull(rest, &rest, 10);
-        rest += marked ? strlen(" - ") : strlen(" ");
         lines++;
+        if (!strncmp(rest, before, strlen(before))) rest += strlen(before);
         if (!strncmp(rest, "ok ", 3)) expected(name, rest + 3, marked, soft, limit, data);
         else if (sscanf(rest, "refused %u %lu", &number, &place) == 2) {
             decode(name, soft, sizeof soft, limit, STATION_DATA_LEN, STATION_REPORT_LEN, number, place, NULL);
@@ -312,17 +311,15 @@ static unsigned long pages(const char *folder, const char *text, int marked) {
     return late;
 }
 
-/* A dump, read and decoded: with 500, as the dump service names it, into what readpage printed before its default became 200, and with the default into what it prints now. */
+/* A dump, read and decoded: with 500, as the dump service names it, into what readpage printed before its default became 200, and by the call that names none into what it prints now. */
 static void listed(const char *folder, const char *name) {
     static uint8_t dump[ROOM + 1], soft[STATION_SOFT_LEN], data[STATION_DATA_LEN], told[STATION_REPORT_LEN];
-    char path[LINE], text[LISTING];
-    snprintf(path, sizeof path, "%s/dumps/%s", folder, name);
-    FILE *file = fopen(path, "rb");
-    size_t len = file ? fread(dump, 1, sizeof dump, file) : 0;
-    if (file) fclose(file);
-    uint64_t read = station_read_dump(dump, len, soft, sizeof soft);
+    char text[LISTING];
+    uint64_t read = station_read_dump(dump, dump_bytes(folder, name, dump, sizeof dump), soft, sizeof soft);
     for (int k = 0; k < LISTINGS; k++) {
-        uint64_t r = read ? read : station_decode_page_limit(soft, sizeof soft, listings[k].limit, data, sizeof data, told, sizeof told);
+        uint64_t limit = listings[k].limit, r = read;
+        if (!read && limit == STATION_DEFAULT_LIMIT) r = station_decode_page(soft, sizeof soft, data, sizeof data, told, sizeof told);
+        if (!read && limit != STATION_DEFAULT_LIMIT) r = station_decode_page_limit(soft, sizeof soft, limit, data, sizeof data, told, sizeof told);
         paged p = {.number = station_number(r), .place = station_place(r), .steps = station_steps(told)};
         for (unsigned i = 0; i < STATION_LEVELS; i++) {
             p.changed[i] = (uint8_t)station_changed(told, i);
@@ -331,24 +328,8 @@ static void listed(const char *folder, const char *name) {
             p.erased_marks[i] = station_erased_mark(told, i);
         }
         listing(&p, data, text);
-        snprintf(path, sizeof path, "%s/dumps/%.*s%s", folder, (int)strlen(name) - 3, name, listings[k].suffix);
-        check(holds_text(path, text), path, r);
+        check(is_listed(folder, name, listings[k].suffix, text), name, r);
     }
-}
-
-static void stored_dumps(const char *folder) {
-    char path[LINE];
-    unsigned long found = 0;
-    snprintf(path, sizeof path, "%s/dumps", folder);
-    DIR *dir = opendir(path);
-    for (struct dirent *entry; dir && (entry = readdir(dir));) {
-        size_t n = strlen(entry->d_name);
-        if (n < 5 || strcmp(entry->d_name + n - 4, ".bin")) continue;
-        listed(folder, entry->d_name);
-        found++;
-    }
-    if (dir) closedir(dir);
-    check(found > 0, path, 0);
 }
 
 int main(int argc, char **argv) {
@@ -364,7 +345,7 @@ int main(int argc, char **argv) {
     seven_at_position_0(STATION_LARGEST_LIMIT);
     check(pages(folder, "pages.txt", 0) > 0, "a page refused after level 0", 0);
     pages(folder, "reports.txt", 1);
-    stored_dumps(folder);
+    check(each_dump(folder, listed) > 0, "stored dumps", 0);
     printf("%lu checked, %lu differ\n", checked, differ);
     return differ != 0;
 }

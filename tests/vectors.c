@@ -311,26 +311,21 @@ static tally check_file(const char *folder, const char *name, verdict (*line_of)
     return t;
 }
 
-/* A dump of dumps/, read and decoded with the limit of each of its stored listings: how many of them differ. */
-static unsigned long dump_file(const char *folder, const char *name) {
+static unsigned long listings_apart;
+
+/* A stored dump, read and decoded with the limit of each of its listings. */
+static void check_dump(const char *folder, const char *name) {
     static uint8_t in[2 * LINE], soft[SOFT], data[DATA];
-    char path[4096], text[LISTING];
-    unsigned long differ = 0;
-    snprintf(path, sizeof path, "%s/dumps/%s", folder, name);
-    FILE *file = fopen(path, "rb");
-    size_t n = file ? fread(in, 1, sizeof in, file) : 0;
-    if (file) fclose(file);
-    filled f = entry_read_dump(in, n, soft, SOFT);
+    char text[LISTING];
+    filled f = entry_read_dump(in, dump_bytes(folder, name, in, sizeof in), soft, SOFT);
     for (int k = 0; k < LISTINGS; k++) {
         paged p = {.number = f.number, .place = f.place};
         if (!f.number) p = entry_decode_page(soft, SOFT, listings[k].limit, data, DATA);
         listing(&p, data, text);
-        snprintf(path, sizeof path, "%s/dumps/%.*s%s", folder, (int)strlen(name) - 3, name, listings[k].suffix);
-        if (holds_text(path, text)) continue;
-        differ++;
-        printf("%s: differs\n", path);
+        if (is_listed(folder, name, listings[k].suffix, text)) continue;
+        listings_apart++;
+        printf("%s/dumps/%s.%s: differs\n", folder, name, listings[k].suffix);
     }
-    return differ;
 }
 
 static const struct { const char *name; verdict (*line_of)(const record *); } texts[] = {
@@ -360,19 +355,10 @@ static void count_left(const char *folder, const char *below) {
 }
 
 static tally check_dumps(const char *folder) {
-    tally t = {0, 0, 0};
-    char path[4096];
-    snprintf(path, sizeof path, "%s/dumps", folder);
-    DIR *dir = opendir(path);
-    if (!dir) return t;
-    for (struct dirent *entry; (entry = readdir(dir));) {
-        size_t n = strlen(entry->d_name);
-        if (n < 5 || strcmp(entry->d_name + n - 4, ".bin")) continue;
-        t.checked += LISTINGS;
-        t.differ += dump_file(folder, entry->d_name);
-    }
-    closedir(dir);
-    printf("dumps: %lu checked, %lu differ\n", t.checked, t.differ);
+    tally t = {LISTINGS * each_dump(folder, check_dump), 0, 0};
+    t.differ = listings_apart;
+    listings_apart = 0;
+    if (t.checked) printf("dumps: %lu checked, %lu differ\n", t.checked, t.differ);
     return t;
 }
 

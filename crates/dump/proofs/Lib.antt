@@ -1,7 +1,6 @@
 pub mod Listed
 pub mod AllBelow
 pub mod Joined
-pub mod Put
 pub mod LastTwo
 pub mod Check
 pub mod Places

@@ -6,7 +6,7 @@ use borrow.Author.Tests.{leb-false}
 use lib.Dec.{leb}
 use Rattle.questions.specs.Questions.{ask}
 
--- by the answer
+-- the same, each by its answer
 pub by-answer : {A : Type 0} (P : A → Type 0) (t : Bool) (refusal next : A) → (t ≡ false → P refusal) → (t ≡ true → P next) → P (ask t refusal next)
 by-answer P true refusal next r n = n refl
 by-answer P false refusal next r n = r refl

@@ -21,20 +21,6 @@ pub fn column_of(page: &[u8], j: usize) -> &[u8]
     &page[0..0]
 }
 
-// A column as an array.
-fn copied(column: &[u8]) -> [u8; 30]
-    requires { ⌜ length (now column) ≡ 30 ⌝ }
-    ensures { λ r. ⌜ r ≡ now (column .entry) ⌝ }
-{
-    let mut out = [0u8; 30];
-    let mut p: usize = 0;
-    while p < 30 {
-        out[p] = column[p];
-        p += 1;
-    }
-    out
-}
-
 // The columns of a soft page.
 pub fn load(soft: &[u8], work: &mut [[u8; 30]; 63])
     requires { ⌜ (length (now soft) ≡ 1890) × (length (now work) ≡ 63) ⌝ }
@@ -42,8 +28,7 @@ pub fn load(soft: &[u8], work: &mut [[u8; 30]; 63])
 {
     let mut j: usize = 0;
     while j < 63 {
-        let column = column_of(soft, j);
-        work[j] = copied(column);
+        bytes::copy(column_of(soft, j), &mut work[j]);
         j += 1;
     }
 }

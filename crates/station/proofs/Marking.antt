@@ -6,7 +6,7 @@ use native.Mathlib.Omega.{arith}
 use lib.ListN.{length, length-append, getD, take, drop}
 use lib.Seq.{length-take-le, take-all, take-at}
 use borrow.Rule.Slice.PartMut.{putMid}
-use Rattle.dump.proofs.Put.{put-more, put-length}
+use Rattle.packing.proofs.Put.{put-more, put-length}
 use Rattle.concatenated.specs.Data.{digits}
 use Rattle.concatenated.proofs.Digits.{digits-length}
 use Rattle.page.specs.declared.Report.{Report}

@@ -135,7 +135,7 @@ pub extern "C" fn station_decode_page_limit(
     returned_number(number, place)
 }
 
-// The same with the default limit.
+// The same with the default limit. Refused by 1, 2, 5 and 10.
 #[no_mangle]
 pub extern "C" fn station_decode_page(soft: &[u8], data: &mut [u8], report: &mut [u8]) -> u64
     ensures { λ r. ⌜ PageReturned (now (soft .entry)) defaultLimit (now («data» .entry)) (now (report .entry)) r (now («data» .exit)) (now (report .exit)) ⌝ }

@@ -1,4 +1,4 @@
--- 01: the questions put to the page calls, and their answers. Assumes nothing.
+-- 01: the questions put to the page calls, and their answers; 02, point 9: the default limit. Assumes nothing.
 use mathlib.Core.List.{List}
 use mathlib.Core.Path.{_≡_}
 use Prim.Native.Nat.{ℕ}

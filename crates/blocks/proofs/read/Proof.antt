@@ -8,7 +8,7 @@ use lib.Seq.{take-all}
 use Rattle.dump.specs.Dump.{softOf}
 use Rattle.dump.specs.Parts.{valuesOf}
 use Rattle.dump.proofs.Blocks.{soft-length, values-of-block}
-use Rattle.dump.proofs.Put.{all-copied, put-more, put-length}
+use Rattle.packing.proofs.Put.{all-copied, put-more, put-length}
 use Rattle.blocks.proofs.read.Statement.{statement}
 use Rattle.blocks.proofs.read.Tie as tie
 

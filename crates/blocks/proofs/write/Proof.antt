@@ -7,7 +7,7 @@ use lib.ListN.{length, take, drop}
 use lib.Seq.{take-all}
 use Rattle.dump.specs.Dump.{dumpOf, blockAt}
 use Rattle.dump.proofs.Blocks.{dump-length, block-of-dump}
-use Rattle.dump.proofs.Put.{put-more, put-length}
+use Rattle.packing.proofs.Put.{put-more, put-length}
 use Rattle.blocks.proofs.write.Statement.{statement}
 use Rattle.blocks.proofs.write.Tie as tie
 
