@@ -4,8 +4,7 @@ use mathlib.Core.Path.{_≡_, refl, ap, _∙_, subst⁻¹}
 use Prim.Native.Nat.{ℕ, zero, suc, _+_, _*_, _^_, _<_}
 use native.Mathlib.Omega.{arith}
 use borrow.Author.Tests.{eq-eqb}
-use lib.Dec.{eqb}
-use lib.ListN.{length, getD, take, drop}
+use lib.ListN.{getD, take, drop}
 use lib.Seq.{take-at}
 use Rattle.trellis.specs.Demand.{supercode}
 use Rattle.packing.specs.Packing.{joined}
@@ -14,13 +13,12 @@ use Rattle.concatenated.proofs.Digits.{digits-length}
 use Rattle.page.specs.Outcomes.{refusedPage, outcomeOf}
 use Rattle.page.specs.declared.PageOutcome.{PageOutcome}
 use Rattle.page.specs.declared.Report.{Report}
-use Rattle.questions.proofs.EitherWay.{either}
 use Rattle.store_pages.specs.Pages.{decodedPage}
 use Rattle.store_pages.specs.Reports.{Marked}
-use Rattle.store_pages.proofs.Asked.{every-way}
 use Rattle.store_pages.proofs.Reports.{refusals-are-marked, answers-are-marked}
 use Rattle.station.specs.Report.{totalBytes, stepsAndTotals, reportBytes, changedTotalIn, erasedTotalIn, Holds}
 use Rattle.station.specs.PageReturned.{decodeAnswer, PageReturned}
+use Rattle.station.proofs.Asked.{every-way-for-c}
 use Rattle.station.proofs.Bytes.{number-comes-back, changed-part, erased-part}
 use Rattle.station.proofs.Marking.{front-length}
 use Rattle.station.proofs.Steps.{steps-are-few}
@@ -30,10 +28,8 @@ ReportMarked o = Marked (o .report)
 
 answer-is-marked : (soft : List ℕ) (limit : ℕ) (bytes report : List ℕ) → ReportMarked (decodeAnswer soft limit bytes report)
 answer-is-marked soft limit bytes report =
-    either ReportMarked (eqb (length soft) 1890) _ _ refusals-are-marked
-    (either ReportMarked (eqb (length report) 76) _ _ refusals-are-marked
-    (every-way soft limit bytes ReportMarked refusedPage (outcomeOf (decodedPage supercode soft limit)) (λ n p some few near. refusals-are-marked)
-    (λ most. answers-are-marked supercode soft limit (decodedPage supercode soft limit) refl)))
+    every-way-for-c soft limit bytes report refusedPage (outcomeOf (decodedPage supercode soft limit)) ReportMarked (λ n p some few near. refusals-are-marked)
+    (λ most. answers-are-marked supercode soft limit (decodedPage supercode soft limit) refl)
 
 totals-in : (r : Report) (level : ℕ) → level < 4 → (changedTotalIn (reportBytes r) level ≡ getD (r .changed) level 0) × (erasedTotalIn (reportBytes r) level ≡ getD (r .erased) level 0)
 unfolding digits
@@ -68,4 +64,4 @@ report-is-read-back soft limit bytes report r newBytes newReport returned done =
     let d = decodeAnswer soft limit bytes report in
     let answered : d .number ≡ 0 = omega (arith, returned .answer, done) in
     let is : newReport ≡ reportBytes (d .report) = returned .report-is ∙ simp (eq-eqb _ _ answered) in
-    subst⁻¹ (λ (x : List ℕ). Holds x (d .report)) is (bytes-hold (d .report) (omega (arith, steps-are-few soft limit bytes report)) (answer-is-marked soft limit bytes report))
+    subst⁻¹ (λ (x : List ℕ). Holds x (d .report)) is (bytes-hold (d .report) (omega (arith, steps-are-few soft limit bytes report .1)) (answer-is-marked soft limit bytes report))

@@ -9,16 +9,17 @@ use Rattle.trellis.specs.Demand.{supercode}
 use Rattle.page.specs.Outcomes.{refusedPage, outcomeOf, dataAfter}
 use Rattle.page.specs.declared.PageOutcome.{PageOutcome}
 use Rattle.questions.specs.Questions.{ask}
-use Rattle.store_pages.specs.Pages.{askPage, decodedPage}
+use Rattle.store_pages.specs.Pages.{askLimitAndValues, decodedPage}
 use Rattle.station.specs.Returned.{returned}
 use Rattle.station.specs.Report.{reportBytes}
 
--- 1: 1,890 values; 2: 76 bytes of report; then the questions of page decoding, 150 bytes of data among them
+-- 1: 1,890 values; 2: 150 bytes of data and 76 of report; 4: the limit; 5: each value
 abbrev pub askDecode : {A : Type 0} → List ℕ → ℕ → List ℕ → List ℕ → (ℕ → ℕ → A) → A → A
 askDecode soft limit bytes report refusal next =
     ask (eqb (length soft) 1890) (refusal 1 0)
+    (ask (eqb (length bytes) 150) (refusal 2 0)
     (ask (eqb (length report) 76) (refusal 2 0)
-    (askPage soft limit bytes refusal next))
+    (askLimitAndValues soft limit refusal next)))
 
 abbrev pub decodeAnswer : List ℕ → ℕ → List ℕ → List ℕ → PageOutcome
 decodeAnswer soft limit bytes report = askDecode soft limit bytes report refusedPage (outcomeOf (decodedPage supercode soft limit))

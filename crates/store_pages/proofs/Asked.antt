@@ -11,7 +11,19 @@ use Rattle.page.specs.Outcomes.{refusedPage, outcomeOf, dataAfter}
 use Rattle.page.specs.declared.PageOutcome.{PageOutcome}
 use Rattle.questions.specs.Questions.{firstAbove}
 use Rattle.questions.proofs.EitherWay.{by-answer, either, first-bad}
-use Rattle.store_pages.specs.Pages.{askPage, decodedPage, PageDecoded}
+use Rattle.store_pages.specs.Pages.{askLimitAndValues, askPage, decodedPage, PageDecoded}
+
+-- a refusal of a number 1..10 and a place up to 1890
+abbrev pub Refusals : {A : Type 0} → (A → Type 0) → (ℕ → ℕ → A) → Type 0
+Refusals P refusal = (n p : ℕ) → 1 ≤ n → n ≤ 10 → p ≤ 1890 → P (refusal n p)
+
+-- what holds of every refusal, and of what follows with a limit up to 2000, holds whatever 4 and 5 are answered
+pub any-limit-and-values : (soft : List ℕ) (limit : ℕ) {A : Type 0} (P : A → Type 0) (refusal : ℕ → ℕ → A) (next : A) → Refusals P refusal → (limit ≤ 2000 → P next)
+    → P (askLimitAndValues soft limit refusal next)
+any-limit-and-values soft limit P refusal next r n =
+    either P (leb 1 limit) _ _ (r 4 0 (omega arith) (omega arith) (omega arith))
+    (by-answer P (leb limit 2000) _ _ (λ e. r 4 0 (omega arith) (omega arith) (omega arith)) (λ e.
+    first-bad P 1890 (firstAbove soft 7) _ _ (λ h. r 5 (firstAbove soft 7) (omega arith) (omega arith) (omega arith)) (n (leb-true limit 2000 e))))
 
 module _ (soft : List ℕ) (limit : ℕ) (old : List ℕ) where
   -- the first no is number n with place p
@@ -48,11 +60,9 @@ module _ (soft : List ℕ) (limit : ℕ) (old : List ℕ) where
         bytes = b ∙ all-yes long room some most good (List ℕ) (λ n p. old) (dataAfter old (decodedPage s soft limit));
       }
 
-  -- what holds of every refusal, of a number 1..10 and a place up to 1890, and of what follows, with a limit up to 2000, holds whatever is answered
-  pub every-way : {A : Type 0} (P : A → Type 0) (refusal : ℕ → ℕ → A) (next : A) → ((n p : ℕ) → 1 ≤ n → n ≤ 10 → p ≤ 1890 → P (refusal n p)) → (limit ≤ 2000 → P next) → P (askPage soft limit old refusal next)
+  -- and whatever all are answered
+  pub every-way : {A : Type 0} (P : A → Type 0) (refusal : ℕ → ℕ → A) (next : A) → Refusals P refusal → (limit ≤ 2000 → P next) → P (askPage soft limit old refusal next)
   every-way P refusal next r n =
       either P (eqb (length soft) 1890) _ _ (r 1 0 (omega arith) (omega arith) (omega arith))
       (either P (eqb (length old) 150) _ _ (r 2 0 (omega arith) (omega arith) (omega arith))
-      (either P (leb 1 limit) _ _ (r 4 0 (omega arith) (omega arith) (omega arith))
-      (by-answer P (leb limit 2000) _ _ (λ e. r 4 0 (omega arith) (omega arith) (omega arith)) (λ e.
-      first-bad P 1890 (firstAbove soft 7) _ _ (λ h. r 5 (firstAbove soft 7) (omega arith) (omega arith) (omega arith)) (n (leb-true limit 2000 e))))))
+      (any-limit-and-values soft limit P refusal next r n))

@@ -32,15 +32,20 @@ defaultLimit = 200
 abbrev pub decodedPage : Search → List ℕ → ℕ → PageAnswer
 decodedPage s soft limit = decoded short shortOuter (shortReader s limit) (softColumns shortPage soft)
 
--- 1: 1,890 values, 2: 150 places, 4: the limit 1..2,000, 5: each value 0..7; `refusal` gives what a no gives
+-- 4: the limit 1..2,000, 5: each value 0..7; `refusal` gives what a no gives
+abbrev pub askLimitAndValues : {A : Type 0} → List ℕ → ℕ → (ℕ → ℕ → A) → A → A
+askLimitAndValues soft limit refusal next =
+    ask (leb 1 limit) (refusal 4 0)
+    (ask (leb limit 2000) (refusal 4 0)
+    (ask (leb 1890 (firstAbove soft 7)) (refusal 5 (firstAbove soft 7))
+    next))
+
+-- 1: 1,890 values, 2: 150 places, then 4 and 5
 abbrev pub askPage : {A : Type 0} → List ℕ → ℕ → List ℕ → (ℕ → ℕ → A) → A → A
 askPage soft limit out refusal next =
     ask (eqb (length soft) 1890) (refusal 1 0)
     (ask (eqb (length out) 150) (refusal 2 0)
-    (ask (leb 1 limit) (refusal 4 0)
-    (ask (leb limit 2000) (refusal 4 0)
-    (ask (leb 1890 (firstAbove soft 7)) (refusal 5 (firstAbove soft 7))
-    next))))
+    (askLimitAndValues soft limit refusal next))
 
 -- the answer, 10 with its level included, and the bytes: those of the answer, or the old ones
 pub record PageDecoded (s : Search) (soft : List ℕ) (limit : ℕ) (old : List ℕ) (r : PageOutcome) (new : List ℕ) : Type 0 where

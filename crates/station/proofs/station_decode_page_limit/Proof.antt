@@ -34,7 +34,7 @@ returns-3 c =
     let page = c .before .before .before .before in
     let asked = page .before .before in
     let limit = asked .before .before .before .before .before .args .limit in
-    refused _ limit _ _ (asked .before .if1 .left) (asked .if2 .left) _ _ (page .decode-page .ensures) (c .before .if3 .taken) (c .returned-number3 .ensures)
+    refused _ limit _ _ (asked .if2 .left) _ _ (page .decode-page .ensures) (c .before .if3 .taken) (c .returned-number3 .ensures)
 
 steps-and-totals-requires : tie.Need-steps-and-totals-requires
 steps-and-totals-requires c κs = search needs
@@ -68,7 +68,7 @@ returns-4 c =
     let page = made .before .before .before .before .before .before .before in
     let asked = page .before .before in
     let limit = asked .before .before .before .before .before .args .limit in
-    answered _ limit _ _ (asked .before .if1 .left) (asked .if2 .left) _ _ (page .decode-page .ensures) (made .before .before .before .before .if3 .left) (c .returned-number4 .ensures) _
+    answered _ limit _ _ (asked .if2 .left) _ _ (page .decode-page .ensures) (made .before .before .before .before .if3 .left) (c .returned-number4 .ensures) _
     (report-is (page .decode-page .result .report) _ _ _ _ (made .steps-and-totals .ensures) (copied .copy .ensures .1) (written .write-marks .ensures))
 
 pub station-decode-page-limit-spec : {M : Type 1} → statement M
