@@ -1,5 +1,5 @@
 -- What the questions of page decoding for C lead to. Assumes nothing.
-use mathlib.Core.Bool.{Bool, true, false}
+use mathlib.Core.Bool.{Bool}
 use mathlib.Core.List.{List}
 use mathlib.Core.Path.{_≡_, refl, ap}
 use Prim.Native.Nat.{ℕ, _≤_}
@@ -19,11 +19,7 @@ module _ (soft : List ℕ) (limit : ℕ) (bytes report : List ℕ) {A : Type 0} 
 
   -- one output of another length is 2, whatever the other has
   pub no-to-report-length : length soft ≡ 1890 → (length report ≡ 76 → ⊥) → askDecode soft limit bytes report refusal next ≡ refusal 2 0
-  no-to-report-length long other = simp (eq-eqb _ _ long, ne-eqb _ _ other) (go (eqb (length bytes) 150))
-    where
-      go : (t : Bool) → ask t (refusal 2 0) (refusal 2 0) ≡ refusal 2 0
-      go true = refl
-      go false = refl
+  no-to-report-length long other = simp (eq-eqb _ _ long, ne-eqb _ _ other) (either (λ (x : A). x ≡ refusal 2 0) (eqb (length bytes) 150) (refusal 2 0) (refusal 2 0) refl refl)
 
   -- with room for the report they are the questions of page decoding
   pub report-has-room : length report ≡ 76 → askDecode soft limit bytes report refusal next ≡ askPage soft limit bytes refusal next
