@@ -1,8 +1,10 @@
 /* Two C baselines of the column search: 01's stack search as C programmers who care for speed write it. Both keep the stack as a binary heap, compare the
-   better of two extensions with the root before they put it in, take the one extension that a check leaves by its parity, and skip no step.
+   better of two extensions with the root before they put it in, take the one extension that a check leaves by its parity, and skip no step. The low point is
+   the lowest sum of the paths taken, as in the store.
    `plain` keeps a path as a struct and compares field by field. `packed` keeps it as one 64-bit key, sum, length and inverted bits from the top, so that
    the larger key stands before: the fastest form known to us in C, which 01's three arrays do not allow. */
 #include "baseline.h"
+#include <limits.h>
 
 enum { ROOM = 2002, BITS = 30 };
 
@@ -55,7 +57,7 @@ static inline uint32_t packed_bits(packed_path p) { return (uint32_t)(LOW - (p &
     }                                                                                                                             \
     baseline_outcome baseline_##kind(const uint8_t *soft, const baseline_tables *tables, int limit) {                             \
         static kind##_path heap[ROOM];                                                                                            \
-        int count = 0, sum = 0;                                                                                                   \
+        int count = 0, sum = 0, low = INT_MAX;                                                                                    \
         unsigned length = 0;                                                                                                      \
         uint32_t bits = 0;                                                                                                        \
         for (int taken = 1; taken <= limit; taken++) {                                                                            \
@@ -82,11 +84,12 @@ static inline uint32_t packed_bits(packed_path p) { return (uint32_t)(LOW - (p &
                 }                                                                                                                 \
             }                                                                                                                     \
             sum = kind##_sum(p);                                                                                                  \
+            low = sum < low ? sum : low;                                                                                          \
             length = kind##_length(p);                                                                                            \
             bits = kind##_bits(p);                                                                                                \
-            if (length == BITS) return (baseline_outcome){bits, (uint32_t)taken};                                                 \
+            if (length == BITS) return (baseline_outcome){bits, (uint32_t)taken, low};                                            \
         }                                                                                                                         \
-        return (baseline_outcome){0, 0};                                                                                          \
+        return (baseline_outcome){0, 0, 0};                                                                                       \
     }
 
 SEARCH(plain)

@@ -3,8 +3,8 @@
 #define BASELINE_H
 #include <stdint.h>
 
-/* count 0: spent */
-typedef struct { uint32_t word, count; } baseline_outcome;
+/* count 0: spent; low: the word's low point */
+typedef struct { uint32_t word, count; int low; } baseline_outcome;
 
 /* What a search looks up: one mask a position for each of two codes, entry t checking a path's bit t + 1; and its level's branch values, entry [b][q] for
    bit b and soft value q. */

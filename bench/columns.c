@@ -27,7 +27,7 @@ static uint64_t baseline_searches(search *one, const uint8_t *soft, const baseli
     uint64_t fold = 0;
     for (int c = 0; c < COLUMNS; c++) {
         baseline_outcome o = one(soft + c * BITS, tables, limit);
-        fold ^= (uint64_t)o.word * 2048 + o.count;
+        fold ^= (uint64_t)(uint16_t)o.low << 48 ^ ((uint64_t)o.word * 2048 + o.count);
     }
     return fold;
 }

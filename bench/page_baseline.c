@@ -2,6 +2,7 @@
    Chien and Forney. It asks none of 01's questions but the tenth. */
 #include "page_baseline.h"
 #include "inputs.h"
+#include <limits.h>
 #include <string.h>
 
 enum { COLUMNS = 63, MOST = 30 };
@@ -126,7 +127,7 @@ static inline uint8_t ones(uint64_t m) {
 }
 
 page_outcome page_baseline_decode(baseline_search *search, const uint8_t *soft, int limit, uint8_t *data) {
-    page_outcome o = {0};
+    page_outcome o = {.low = INT_MAX};
     uint8_t page[COLUMNS][BITS], symbols[200], *symbol = symbols;
     memcpy(page, soft, sizeof page);
     for (int i = 0; i < LEVELS; i++) {
@@ -135,6 +136,7 @@ page_outcome page_baseline_decode(baseline_search *search, const uint8_t *soft, 
         for (int j = 0; j < COLUMNS; j++) {
             baseline_outcome c = search(page[j], &tables[i], limit);
             marks[j] = c.count == 0;
+            if (c.count && c.low < o.low) o.low = c.low;
             o.steps += c.count ? c.count : (uint32_t)limit;
             erased |= (uint64_t)marks[j] << j;
             for (int n = 3; n >= i; n--) {       /* re-imaging */

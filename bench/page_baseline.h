@@ -5,8 +5,8 @@
 
 typedef baseline_outcome baseline_search(const uint8_t *soft, const baseline_tables *tables, int limit);
 
-/* number 0, or 10 with the level as place; of each level the totals and the marks, column j at bit j */
-typedef struct { uint64_t number, place, steps; uint8_t changed[4], erased[4]; uint64_t changed_marks[4], erased_marks[4]; } page_outcome;
+/* number 0, or 10 with the level as place; of each level the totals and the marks, column j at bit j; the low point */
+typedef struct { uint64_t number, place, steps; uint8_t changed[4], erased[4]; uint64_t changed_marks[4], erased_marks[4]; int64_t low; } page_outcome;
 
 /* makes the tables; call it first */
 void page_baseline_start(void);

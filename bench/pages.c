@@ -1,5 +1,5 @@
 /* Pages: the store's coding and decoding (supercode search), questions included, and the C baseline's on the same pages, in one process, in turns; the least
-   of the rounds counts. Every page's bytes, steps, changed and erased columns with their marks and refusals are compared. */
+   of the rounds counts. Every page's bytes, steps, changed and erased columns with their marks, low points and refusals are compared. */
 #include "../tests/entries.h"
 #include "inputs.h"
 #include "page_baseline.h"
@@ -28,7 +28,7 @@ static void decode_once(int way, int p, int limit) {
         return;
     }
     paged o = entry_decode_page(soft[p], SOFT, (uint64_t)limit, back[0][p], DATA);
-    outcomes[0][p] = (page_outcome){.number = o.number, .place = o.place, .steps = o.steps};
+    outcomes[0][p] = (page_outcome){.number = o.number, .place = o.place, .steps = o.steps, .low = o.low};
     memcpy(outcomes[0][p].changed, o.changed, sizeof o.changed);
     memcpy(outcomes[0][p].erased, o.erased, sizeof o.erased);
     memcpy(outcomes[0][p].changed_marks, o.changed_marks, sizeof o.changed_marks);

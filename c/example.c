@@ -59,7 +59,7 @@ static void print_columns(const char *what, unsigned total, uint64_t mark) {
 }
 
 static void print_report(const uint8_t report[STATION_REPORT_LEN]) {
-    printf("steps %lu\n", (unsigned long)station_steps(report));
+    printf("steps %lu low point %d\n", (unsigned long)station_steps(report), station_low(report));
     for (unsigned level = 0; level < STATION_LEVELS; level++) {
         printf("level %u", level);
         print_columns("changed", station_changed(report, level), station_changed_mark(report, level));

@@ -48,7 +48,7 @@ enum {
     STATION_PAGE_LEN = 252,
     STATION_SOFT_LEN = 1890,
     STATION_DUMP_LEN = 2048,
-    STATION_REPORT_LEN = 76,
+    STATION_REPORT_LEN = 78,
     STATION_LEVELS = 4,
     STATION_COLUMNS = 63,
     STATION_DEFAULT_LIMIT = 200,
@@ -73,7 +73,7 @@ uint64_t station_encode_page(const uint8_t *data, size_t data_len, uint8_t *page
 
 /* Decodes a soft page of STATION_SOFT_LEN values, 30 a column; 0..3 read as bit 0 and 4..7 as bit 1, 0 and 7 being the surest. Gives
    STATION_DATA_LEN bytes of data and a report of STATION_REPORT_LEN bytes, which station_steps, station_changed, station_erased,
-   station_changed_mark and station_erased_mark read. Refused by 1, 2, 4, 5 and 10. */
+   station_changed_mark, station_erased_mark and station_low read. Refused by 1, 2, 4, 5 and 10. */
 uint64_t station_decode_page_limit(const uint8_t *soft, size_t soft_len, uint64_t limit, uint8_t *data, size_t data_len, uint8_t *report, size_t report_len);
 
 /* The same with STATION_DEFAULT_LIMIT. Refused by 1, 2, 5 and 10.
@@ -115,6 +115,14 @@ static inline uint64_t station_changed_mark(const uint8_t report[STATION_REPORT_
 
 /* Which columns of a level, below STATION_LEVELS, were erased: a mark with as many ones as station_erased says. */
 static inline uint64_t station_erased_mark(const uint8_t report[STATION_REPORT_LEN], unsigned level) { return station_mark(report + 20 + 16 * level); }
+
+/* How close a column came to being lost: the lowest sum that a prefix of a column's word has, over the words that the searches returned at all
+   levels; columns that were erased have none. A page that is read surely has 2; the lower, the closer. The report ends in it: two bytes, two's
+   complement, high byte first. */
+static inline int station_low(const uint8_t report[STATION_REPORT_LEN]) {
+    int bits = report[76] << 8 | report[77];
+    return bits < 32768 ? bits : bits - 65536;
+}
 
 #ifdef __cplusplus
 }

@@ -7,14 +7,14 @@
 /* What a call tells: number 0 if nothing is refused, the place, the value. */
 typedef struct { uint64_t number, place, value; } told;
 
-/* What a search tells: the word and the count where number is 0. */
-typedef struct { uint64_t number, place, word, count; } found;
+/* What a search tells: the word, the count and the low point where number is 0. */
+typedef struct { uint64_t number, place, word, count; int16_t low; } found;
 
 /* What a call that fills a buffer tells. */
 typedef struct { uint64_t number, place; } filled;
 
-/* What page decoding tells: of each level the totals and the marks, column j at bit j. */
-typedef struct { uint64_t number, place, steps; uint8_t changed[4], erased[4]; uint64_t changed_marks[4], erased_marks[4]; } paged;
+/* What page decoding tells: of each level the totals and the marks, column j at bit j; and the low point. */
+typedef struct { uint64_t number, place, steps; uint8_t changed[4], erased[4]; uint64_t changed_marks[4], erased_marks[4]; int16_t low; } paged;
 
 /* A part of the caller's own bytes. */
 typedef struct { const uint8_t *bytes; size_t count; } part;

@@ -7,7 +7,7 @@
 #include <stdlib.h>
 #include <string.h>
 
-enum { GUARD = 64, ROOM = 4096, LINE = 8192, BLOCK = 512, BLOCKS = 4, COLUMNS_AT = 16, VALUES = 480, CHECK_AT = 510, BITS = 30, TOTALS = 12 };
+enum { GUARD = 64, ROOM = 4096, LINE = 8192, BLOCK = 512, BLOCKS = 4, COLUMNS_AT = 16, VALUES = 480, CHECK_AT = 510, BITS = 30, TOTALS = 12, LOW_AT = 76 };
 
 /* A lent buffer between guards, and what it held before the call. */
 typedef struct { uint8_t space[GUARD + ROOM + GUARD], before[GUARD + ROOM + GUARD]; size_t len; } buffer;
@@ -58,8 +58,8 @@ static void read_dump(const char *what, const uint8_t *dump, size_t dump_len, si
     check(is(r, number, place) && kept(&in) && (soft ? holds(&out, soft, out.len) : kept(&out)), what, r);
 }
 
-/* What a page is to tell, its marks if they are known; entry 2i of totals and marks for the changed columns of level i, entry 2i + 1 for the erased ones. */
-typedef struct { uint8_t data[STATION_DATA_LEN]; int marked; uint64_t steps, totals[2 * STATION_LEVELS], marks[2 * STATION_LEVELS]; } answer;
+/* What a page is to tell, its marks and its low point if they are known; entry 2i of totals and marks for the changed columns of level i, entry 2i + 1 for the erased ones. */
+typedef struct { uint8_t data[STATION_DATA_LEN]; int marked; uint64_t steps, totals[2 * STATION_LEVELS], marks[2 * STATION_LEVELS]; int low; } answer;
 
 /* A number, high byte first. */
 static void put(uint8_t *to, int n, uint64_t number) {
@@ -73,6 +73,7 @@ static int reported(const buffer *b, const answer *told) {
         put(expected + 4 + k, 1, told->totals[k]);
         put(expected + TOTALS + 8 * k, 8, told->marks[k]);
     }
+    put(expected + LOW_AT, 2, (uint64_t)told->low);
     return holds(b, expected, told->marked ? STATION_REPORT_LEN : TOTALS);
 }
 
@@ -117,6 +118,7 @@ static void lengths(void) {
         }
     }
     decode("decode, a report without marks", bad, STATION_SOFT_LEN, STATION_DEFAULT_LIMIT, STATION_DATA_LEN, TOTALS, STATION_OUTPUT_LENGTH, 0, NULL);
+    decode("decode, a report without low point", bad, STATION_SOFT_LEN, STATION_DEFAULT_LIMIT, STATION_DATA_LEN, LOW_AT, STATION_OUTPUT_LENGTH, 0, NULL);
 }
 
 /* Bad soft values: the first one is the place. */
@@ -136,7 +138,7 @@ static void limits(void) {
         {0, STATION_LIMIT}, {1, STATION_NO_WORD}, {BITS - 1, STATION_NO_WORD}, {BITS, STATION_OK}, {STATION_DEFAULT_LIMIT, STATION_OK}, {500, STATION_OK},
         {STATION_LARGEST_LIMIT, STATION_OK}, {STATION_LARGEST_LIMIT + 1, STATION_LIMIT}, {(uint64_t)1 << 32, STATION_LIMIT}, {((uint64_t)1 << 32) + 1, STATION_LIMIT}, {UINT64_MAX, STATION_LIMIT},
     };
-    const answer zeros = {.marked = 1, .steps = STATION_LEVELS * STATION_COLUMNS * BITS};
+    const answer zeros = {.marked = 1, .steps = STATION_LEVELS * STATION_COLUMNS * BITS, .low = 2};
     for (size_t i = 0; i < sizeof cases / sizeof cases[0]; i++) {
         uint8_t soft[STATION_SOFT_LEN] = {0};
         unsigned number = cases[i].number;
@@ -209,7 +211,7 @@ static void bytes_of(const char *text, uint8_t *to, size_t n) {
 static void answered(const char *name, const uint8_t *soft, uint64_t limit, const answer *told) {
     decode(name, soft, STATION_SOFT_LEN, limit, STATION_DATA_LEN, STATION_REPORT_LEN, STATION_OK, 0, told);
     const uint8_t *r = bytes(&report);
-    int same = station_steps(r) == told->steps;
+    int same = station_steps(r) == told->steps && (!told->marked || station_low(r) == told->low);
     for (unsigned i = 0; i < STATION_LEVELS; i++) {
         uint64_t changed = station_changed_mark(r, i), erased = station_erased_mark(r, i), changes = told->totals[2 * i], erasures = told->totals[2 * i + 1];
         same &= station_changed(r, i) == changes && station_erased(r, i) == erasures;
@@ -230,7 +232,7 @@ static void add_word(uint8_t *column, uint32_t word) {
 static void known_columns(uint64_t limit) {
     enum { LEVEL_1_WORD = 5433, LEVEL_3_WORD = 31139703 };
     uint8_t page[STATION_PAGE_LEN], soft[STATION_SOFT_LEN];
-    answer told = {.marked = 1, .steps = 2 * (62 * BITS + limit) + 2 * (61 * BITS + 2 * limit)};
+    answer told = {.marked = 1, .steps = 2 * (62 * BITS + limit) + 2 * (61 * BITS + 2 * limit), .low = 2};
     for (int i = 0; i < STATION_DATA_LEN; i++) told.data[i] = (uint8_t)(37 * i + 11);
     for (int i = 0; i < STATION_LEVELS; i++) {
         told.totals[2 * i + 1] = i < 2 ? 1 : 2;
@@ -249,11 +251,11 @@ static void known_columns(uint64_t limit) {
 }
 
 /* The page of zeros, read surely but for soft 7 at position 0 of column 0. Its search takes 347 steps at level 0 and 1020, 717 and 1177 at the others: with 500 the column keeps its answer at
-   level 0, the zero word, with the default it is spent there too. */
+   level 0, the zero word, whose first bit has -60; with the default it is spent there too, and the other columns' first bits, 2 each, are the lowest. */
 static void seven_at_position_0(uint64_t limit) {
     static const uint64_t taken[STATION_LEVELS] = {347, 1020, 717, 1177};
     uint8_t soft[STATION_SOFT_LEN] = {7};
-    answer told = {.marked = 1, .steps = STATION_LEVELS * 62 * BITS};
+    answer told = {.marked = 1, .steps = STATION_LEVELS * 62 * BITS, .low = limit < taken[0] ? 2 : -60};
     for (int i = 0; i < STATION_LEVELS; i++) {
         int spent = taken[i] > limit;
         told.steps += spent ? limit : taken[i];
@@ -262,10 +264,10 @@ static void seven_at_position_0(uint64_t limit) {
     answered("soft 7 at position 0", soft, limit, &told);
 }
 
-/* The rest of an expect line after `ok`. In reports.txt the steps are followed by a low point, which the station does not tell, and each total by its mark. */
+/* The rest of an expect line after `ok`. In reports.txt the steps are followed by the low point, and each total by its mark. */
 static void expected(const char *name, char *at, int marked, const uint8_t *soft, uint64_t limit, const uint8_t *data) {
     answer told = {.marked = marked, .steps = strtoul(at, &at, 10)};
-    if (marked && !strncmp(at, " low ", 5)) strtol(at + 5, &at, 10);
+    if (marked && !strncmp(at, " low ", 5)) told.low = (int)strtol(at + 5, &at, 10);
     for (int k = 0; k < 2 * STATION_LEVELS; k++) {
         told.totals[k] = strtoul(at, &at, 10);
         if (marked) told.marks[k] = strtoull(at, &at, 16);

@@ -2,11 +2,13 @@
    The formats are those of tests/vectors/README.md. Lines of calls that the store does not have yet are counted as left, in files of other names too. */
 #include "listing.h"
 #include <dirent.h>
+#include <limits.h>
+#include <stddef.h>
 #include <stdio.h>
 #include <stdlib.h>
 #include <string.h>
 
-enum { LINE = 8192, FIELDS = 32, ROW = 63, SOFT = 1890, DUMP = 2048, DATA = 150, WRITTEN = 252 };
+enum { LINE = 8192, FIELDS = 32, BITS = 30, ROW = 63, SOFT = 1890, DUMP = 2048, DATA = 150, WRITTEN = 252 };
 
 typedef struct { char *field[FIELDS]; int count; } record;
 typedef struct { unsigned long checked, differ, left; } tally;
@@ -68,19 +70,33 @@ static verdict code_line(const record *r) {
     return DIFFERS;
 }
 
+/* The low point of a word on a soft column, straight from its definition: the lowest sum of a prefix, with the branch values of the level. */
+static int low_point(const uint8_t *soft, uint64_t level, uint64_t word) {
+    static const int agree[] = {2, 1, -1, -5}, disagree[] = {-60, -35, -20, -11};
+    int sum = 0, low = INT_MAX;
+    for (int k = 0; k < BITS; k++) {
+        int reads = soft[k] > 3, doubt = reads ? 7 - soft[k] : soft[k];
+        sum += ((word >> (BITS - 1 - k) & 1) == (uint64_t)reads ? agree : disagree)[doubt] + 2 * (int)level;
+        if (sum < low) low = sum;
+    }
+    return low;
+}
+
 static found searched(const char *mode, const uint8_t *soft, size_t n, uint64_t level, uint64_t limit) {
     return mode[0] == 'w' ? entry_search_whole(level, soft, n, limit) : entry_search_supercode(level, soft, n, limit);
 }
 
-/* columns.txt */
+/* columns.txt, search.txt and lows.txt: a word's line ends in its count, or in its low point too, which is reckoned here as well; a refusal tells nothing more. */
 static verdict column_line(const record *r) {
     uint8_t soft[LINE];
     size_t n = strlen(r->field[0]);
-    if (r->count != 5 && r->count != 6) return DIFFERS;
+    if (r->count < 5 || r->count > 7) return DIFFERS;
     for (size_t i = 0; i < n; i++) soft[i] = (uint8_t)(r->field[0][i] - '0');
     found f = searched(r->field[3], soft, n, decimal(r->field[1]), decimal(r->field[2]));
-    if (r->count == 5) return f.number == decimal(r->field[4]) && f.place == 0 ? SAME : DIFFERS;
-    return f.number == 0 && f.word == decimal(r->field[4]) && f.count == decimal(r->field[5]) ? SAME : DIFFERS;
+    if (r->count == 5) return f.number == decimal(r->field[4]) && f.place == 0 && !f.word && !f.count && !f.low ? SAME : DIFFERS;
+    int low = low_point(soft, decimal(r->field[1]), f.word);
+    if (r->count == 7 && low != atoi(r->field[6])) return DIFFERS;
+    return f.number == 0 && f.word == decimal(r->field[4]) && f.count == decimal(r->field[5]) && f.low == low ? SAME : DIFFERS;
 }
 
 /* What a row call wrote is the word of the line, or nothing. */
@@ -117,11 +133,14 @@ static paged decoded(const char *mode, const uint8_t *soft, size_t n, uint64_t l
 /* pages.txt: a record is its lines page, data, written, soft, then expect lines. What the expect lines need is kept from the lines before. */
 static uint8_t page_data[DATA], page_soft[SOFT];
 
+/* Number, place, steps, totals, marks and low point are the same. */
+static int same_report(const paged *a, const paged *b) { return !memcmp(a, b, offsetof(paged, low)) && a->low == b->low; }
+
 /* An answered page's marks have as many ones as its totals, none at bit 63, and no column is both changed and erased. A refused page tells only number and place. */
 static int report_right(const paged *p) {
     if (p->number) {
         const paged refusal = {.number = p->number, .place = p->place};
-        return !memcmp(p, &refusal, sizeof refusal);
+        return same_report(p, &refusal);
     }
     for (int i = 0; i < 4; i++) {
         uint64_t changed = p->changed_marks[i], erased = p->erased_marks[i];
@@ -146,9 +165,9 @@ static verdict both_decoders(const uint8_t *soft) {
     for (size_t i = 0; i < sizeof limits / sizeof limits[0]; i++) {
         uint8_t by_supercode[DATA] = {0}, by_whole[DATA] = {0};
         paged s = entry_decode_page(soft, SOFT, limits[i], by_supercode, DATA), w = entry_decode_page_whole(soft, SOFT, limits[i], by_whole, DATA);
-        int same = s.number == w.number && s.place == w.place && !memcmp(by_supercode, by_whole, DATA)
-                   && !memcmp(s.changed, w.changed, sizeof s.changed) && !memcmp(s.erased, w.erased, sizeof s.erased)
-                   && !memcmp(s.changed_marks, w.changed_marks, sizeof s.changed_marks) && !memcmp(s.erased_marks, w.erased_marks, sizeof s.erased_marks);
+        paged with_its_steps = w;
+        with_its_steps.steps = s.steps;
+        int same = same_report(&s, &with_its_steps) && !memcmp(by_supercode, by_whole, DATA);
         int premise = s.number == 0 && !s.erased[1] && !s.erased[2] && !s.erased[3];
         if (!report_right(&s) || !report_right(&w) || (premise && !(same && w.steps <= s.steps))) v = DIFFERS;
         pages_compared++;
@@ -186,9 +205,6 @@ static verdict page_line(const record *r) {
     return p.number == 0 && p.steps == decimal(r->field[4]) && level_totals(&p, r) && data_of_line(out, r->field[13]) ? SAME : DIFFERS;
 }
 
-/* Low points of answered pages: a field of a request to come, passed over. */
-static unsigned long low_points;
-
 static int level_marks(const paged *p, char *const *field) {
     for (int i = 0; i < 4; i++, field += 4)
         if (p->changed[i] != decimal(field[0]) || p->changed_marks[i] != hexadecimal(field[1]) || p->erased[i] != decimal(field[2]) || p->erased_marks[i] != hexadecimal(field[3])) return 0;
@@ -206,8 +222,7 @@ static verdict report_line(const record *r) {
     if (!report_right(&p)) return DIFFERS;
     if (!strcmp(r->field[4], "refused") && r->count == 7) return refuses(p.number, p.place, r) == SAME && untouched(out, sizeof out) ? SAME : DIFFERS;
     if (strcmp(r->field[4], "ok") || strcmp(r->field[6], "low") || r->count != 25) return DIFFERS;
-    low_points++;
-    return p.number == 0 && p.steps == decimal(r->field[5]) && level_marks(&p, r->field + 8) && data_of_line(out, r->field[24]) ? SAME : DIFFERS;
+    return p.number == 0 && p.steps == decimal(r->field[5]) && p.low == atoi(r->field[7]) && level_marks(&p, r->field + 8) && data_of_line(out, r->field[24]) ? SAME : DIFFERS;
 }
 
 /* The input of a dump or page line: all zero, or the dump of the all-zero soft page, cut or lengthened by zeros, with the line's edits. */
@@ -305,8 +320,6 @@ static tally check_file(const char *folder, const char *name, verdict (*line_of)
     fclose(file);
     printf("%s: %lu checked, %lu differ", name, t.checked, t.differ);
     if (t.left) printf(", %lu of calls to come", t.left);
-    if (low_points) printf(", %lu low points of a request to come", low_points);
-    low_points = 0;
     printf("\n");
     return t;
 }
@@ -329,7 +342,7 @@ static void check_dump(const char *folder, const char *name) {
 }
 
 static const struct { const char *name; verdict (*line_of)(const record *); } texts[] = {
-    {"code.txt", code_line}, {"columns.txt", column_line}, {"outer.txt", outer_line}, {"pages.txt", page_line}, {"reports.txt", report_line}, {"refusals.txt", refusal_line},
+    {"code.txt", code_line}, {"columns.txt", column_line}, {"search.txt", column_line}, {"lows.txt", column_line}, {"outer.txt", outer_line}, {"pages.txt", page_line}, {"reports.txt", report_line}, {"refusals.txt", refusal_line},
 };
 enum { TEXTS = sizeof texts / sizeof texts[0] };
 
@@ -366,7 +379,7 @@ static tally check_dumps(const char *folder) {
 static tally check_trips(void) {
     static uint8_t data[DATA], page[WRITTEN], soft[SOFT], again[SOFT], dump[DUMP], back[DATA];
     tally t = {0, 0, 0};
-    const paged clean = {.steps = 7560};
+    const paged clean = {.steps = 7560, .low = 2};
     uint64_t state = 20261115;
     for (int trip = 0; trip < 40; trip++) {
         for (int i = 0; i < DATA; i++) {
@@ -377,11 +390,11 @@ static tally check_trips(void) {
         for (int k = 0; k < SOFT; k++) soft[k] = page[k / 30 * 4 + k % 30 / 8] >> (7 - k % 30 % 8) & 1 ? 7 : 0;
         filled w = entry_write_dump(soft, SOFT, dump, DUMP), r = entry_read_dump(dump, DUMP, again, SOFT);
         paged s = entry_decode_page(again, SOFT, 500, back, DATA);
-        int same = !w.number && !r.number && !memcmp(&s, &clean, sizeof s) && !memcmp(soft, again, SOFT) && !memcmp(data, back, DATA);
+        int same = !w.number && !r.number && same_report(&s, &clean) && !memcmp(soft, again, SOFT) && !memcmp(data, back, DATA);
         memset(back, UNTOUCHED, DATA);
         paged h = entry_decode_page_whole(again, SOFT, 500, back, DATA);
         t.checked++;
-        t.differ += !(same && !memcmp(&h, &clean, sizeof h) && !memcmp(data, back, DATA));
+        t.differ += !(same && same_report(&h, &clean) && !memcmp(data, back, DATA));
     }
     for (int k = 0; k < DUMP; k++) {
         uint8_t kept = dump[k];

@@ -4,18 +4,21 @@ use mathlib.Core.List.{List, [], _∷_, _++_, map}
 use mathlib.Core.Path.{_≡_, refl, ap, ap₂, _∙_, subst, subst⁻¹}
 use Prim.Native.Nat.{ℕ, zero, suc, _+_, _≤_, _<_}
 use native.Mathlib.Omega.{arith}
+use lib.IntN.{ℤ}
 use Rattle.column.specs.Shape.{Shape, levels}
 use Rattle.column.specs.Level.{reimaged}
+use Rattle.trellis.specs.Trellis.{WordFound}
 use Rattle.reedsolomon.specs.Search.{OuterAnswer, Found, NoneInReach}
 use Rattle.concatenated.specs.Lists.{All, sum}
 use Rattle.concatenated.specs.Outer.{RowDecoder}
-use Rattle.concatenated.specs.Decode.{Reading, found, spent, Reader, mark, marks, symbol, symbols, count, steps, changed, Level, level, State, going, stopped, decodedRow, settle, onward, run, Reaches, AtEveryLevel, outcome, decoded}
+use Rattle.concatenated.specs.Decode.{Reading, found, spent, Reader, mark, marks, symbol, symbols, lows, count, steps, changed, Level, level, State, going, stopped, decodedRow, settle, onward, run, Reaches, AtEveryLevel, outcome, decoded}
 use Rattle.concatenated.specs.Readers.{Apart, Agree, sumOver, sumBelow}
 
--- two readings of a level with the same symbols and marks, the second with d more steps
+-- two readings of a level with the same symbols, marks and low points, the second with d more steps
 pub record SameReadings (S : Shape) (i d : ℕ) (rs ss : List Reading) : Type 0 where
   pub same-symbols : symbols S i rs ≡ symbols S i ss
   pub same-marks : marks rs ≡ marks ss
+  pub same-lows : lows rs ≡ lows ss
   pub more-steps : steps ss ≡ steps rs + d
 
 -- two states with the same columns and levels, the second with d more steps; or stopped at the same level
@@ -27,29 +30,38 @@ SameStates d (stopped l) (stopped k) = l ≡ k
 
 one-search : (S : Shape) (i d : ℕ) (r s : Reading) → Apart d r s → (symbol S i r ≡ symbol S i s) × (mark r ≡ mark s) × (count s ≡ count r + d)
 unfolding symbol mark count
-one-search S i d (found w m) (found v n) h = (ap (reimaged S i) (h .0), refl, h .1)
+one-search S i d (found w m) (found v n) h = (ap (λ (x : WordFound). reimaged S i (x .column)) (h .0), refl, h .1)
 one-search S i d (found w m) (spent n) h = absurd h
 one-search S i d (spent m) (found v n) h = absurd h
 one-search S i d (spent m) (spent n) h = (refl, refl, h)
+
+lows-of-one-more : (d : ℕ) (r s : Reading) (rs ss : List Reading) → Apart d r s → lows rs ≡ lows ss → lows (r ∷ rs) ≡ lows (s ∷ ss)
+unfolding lows
+lows-of-one-more d (found w m) (found v n) rs ss h e = ap₂ (λ (x : WordFound) (zs : List ℤ). x .low ∷ zs) (h .0) e
+lows-of-one-more d (found w m) (spent n) rs ss h e = absurd h
+lows-of-one-more d (spent m) (found v n) rs ss h e = absurd h
+lows-of-one-more d (spent m) (spent n) rs ss h e = e
 
 -- the readings of columns whose searches are apart
 same-readings : (S : Shape) (i : ℕ) (f g : List ℕ → Reading) (dead : List ℕ → ℕ) (cs : List (List ℕ)) → All (λ c. Apart (dead c) (f c) (g c)) cs
     → SameReadings S i (sum (map dead cs)) (map f cs) (map g cs)
 unfolding sum
-same-readings S i f g dead [] h = record { same-symbols = refl; same-marks = refl; more-steps = refl }
+same-readings S i f g dead [] h = record { same-symbols = refl; same-marks = refl; same-lows = refl; more-steps = refl }
 same-readings S i f g dead (c ∷ cs) h =
     let one = one-search S i (dead c) (f c) (g c) (h .0) in
     let others = same-readings S i f g dead cs (h .1) in
     record {
       same-symbols = ap₂ (λ x y. x ∷ y) (one .0) (others .same-symbols);
       same-marks = ap₂ (λ x y. x ∷ y) (one .1) (others .same-marks);
+      same-lows = lows-of-one-more (dead c) (f c) (g c) (map f cs) (map g cs) (h .0) (others .same-lows);
       more-steps = omega (arith, one .2, others .more-steps);
     }
 
 same-level : (S : Shape) (i d : ℕ) (rs ss : List Reading) (r : List ℕ) → SameReadings S i d rs ss → level S i rs r ≡ level S i ss r
 unfolding level
 same-level S i d rs ss r a =
-    ap₂ (λ (xs : List ℕ) (ms : List Bool). record { symbols = r; changed = changed xs ms r; erased = ms }) (a .same-symbols) (a .same-marks)
+    ap₂ (λ (xs : List ℕ) (ms : List Bool). record { symbols = r; changed = changed xs ms r; erased = ms; lows = lows rs }) (a .same-symbols) (a .same-marks)
+    ∙ ap (λ (zs : List ℤ). record { symbols = r; changed = changed (symbols S i ss) (marks ss) r; erased = marks ss; lows = zs }) (a .same-lows)
 
 module _ (S : Shape) (outer : RowDecoder) where
   same-settling : (i d e : ℕ) (cs : List (List ℕ)) (ls : List Level) (m n : ℕ) (rs ss : List Reading) → n ≡ m + d → SameReadings S i e rs ss → (o : OuterAnswer)

@@ -19,6 +19,7 @@ use Rattle.paths.proofs.Prefixes.{Prefix, prefix-some, prefix-length, prefix-wh
 use Rattle.paths.proofs.Ahead.{last-apart, is-ahead, last-apart-in, last-apart-last}
 use Rattle.trellis.specs.Values.{Values, reading, doubt, branch}
 use Rattle.trellis.specs.Order.{bit, number, sum, zeroFirst, firstBy, before}
+use Rattle.trellis.specs.Trellis.{WordFound}
 use Rattle.trellis.specs.Demand.{Search as Kind, Codeword, AheadOfAll}
 use Rattle.trellis.proofs.Values.{doubt-lt}
 use Rattle.trellis.proofs.Order.{order}
@@ -172,4 +173,4 @@ pub searches-find-the-reading : (S : Shape) → ((i : ℕ) → i < levels S → 
 searches-find-the-reading S searchable vs above limit kind i h c x n long soft word e =
     let r = reading-has-a-path (vs i) (above i) c in
     let code : Codeword S i (r .0) = record { long = r .1 ∙ long; word = subst⁻¹ (Word (S .bits) (levelCode S i)) (r .2) word } in
-    found-is-ahead-of-all S i (searchable i h) vs limit c kind (r .0) (codeword-read-is-ahead-of-all (vs i) (above i) c S i (r .0) (searchable i h .some-bits) code (r .3)) x n e .0 ∙ r .2
+    ap (λ (y : WordFound). y .column) (found-is-ahead-of-all S i (searchable i h) vs limit c kind (r .0) (codeword-read-is-ahead-of-all (vs i) (above i) c S i (r .0) (searchable i h .some-bits) code (r .3)) x n e .0) ∙ r .2

@@ -94,7 +94,7 @@ module _ (S : Shape) (ok : Sound S) where
       right (spent n) f = ap (otherThan (writtenSum S i s)) f
       right (found v n) f =
           let word : Word (S .bits) (levelCode S i) (hardReading c) = subst⁻¹ (Word (S .bits) (levelCode S i)) (e .0) (sum-of-level-words i s h (range .0)) in
-          ap (otherThan (writtenSum S i s)) f ∙ ap not (eq-eqb v (writtenSum S i s) (finds i h c v n (soft .0 .0) (soft .0 .1) word f ∙ e .0))
+          ap (otherThan (writtenSum S i s)) f ∙ ap not (eq-eqb (v .column) (writtenSum S i s) (finds i h c v n (soft .0 .0) (soft .0 .1) word f ∙ e .0))
 
   module _ (ws page : List (List ℕ)) (soft : All SoftColumn page) (range : All InRange ws) (clean : ReadsAs S 0 page ws) where
     pub cleared-soft : (i : ℕ) → All SoftColumn (cleared S ws page i)

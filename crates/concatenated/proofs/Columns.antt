@@ -56,11 +56,11 @@ pub altered-columns-are-misread : (S : Shape) (i : ℕ) (rs : List Reading) (ws 
 unfolding total changed symbol mark rowAt othersThan otherThan
 altered-columns-are-misread S i [] ws h = omega arith
 altered-columns-are-misread S i (r ∷ rs) [] h = omega arith
-altered-columns-are-misread S i (found w n ∷ rs) (s ∷ ws) h = omega (arith, go (eqb w (writtenSum S i s)) refl, altered-columns-are-misread S i rs ws (h .1))
+altered-columns-are-misread S i (found w n ∷ rs) (s ∷ ws) h = omega (arith, go (eqb (w .column) (writtenSum S i s)) refl, altered-columns-are-misread S i rs ws (h .1))
   where
-    go : (t : Bool) → eqb w (writtenSum S i s) ≡ t → cond (not (eqb (reimaged S i w) (getD s i 0))) 1 0 ≤ cond (not (eqb w (writtenSum S i s))) 1 0
+    go : (t : Bool) → eqb (w .column) (writtenSum S i s) ≡ t → cond (not (eqb (reimaged S i (w .column)) (getD s i 0))) 1 0 ≤ cond (not (eqb (w .column) (writtenSum S i s))) 1 0
     go true e =
-        let z : eqb (reimaged S i w) (getD s i 0) ≡ true = eq-eqb _ _ (ap (reimaged S i) (eqb-true w (writtenSum S i s) e) ∙ h .0) in
+        let z : eqb (reimaged S i (w .column)) (getD s i 0) ≡ true = eq-eqb _ _ (ap (reimaged S i) (eqb-true (w .column) (writtenSum S i s) e) ∙ h .0) in
         rw (z, e) (omega arith)
-    go false e = rw e (at-most-one (not (eqb (reimaged S i w) (getD s i 0))))
+    go false e = rw e (at-most-one (not (eqb (reimaged S i (w .column)) (getD s i 0))))
 altered-columns-are-misread S i (spent n ∷ rs) (s ∷ ws) h = omega (arith, altered-columns-are-misread S i rs ws (h .1))

@@ -22,6 +22,7 @@ pub mod Groups
 pub mod DataGroups
 pub mod PageBytes
 pub mod OuterJoint
+pub mod Lows
 pub mod Zeros
 pub mod ZeroPage
 pub mod Marks

@@ -1,17 +1,22 @@
 -- Laws of lists: each entry, appending, and lists by index. Assumes nothing.
 use mathlib.Core.Path.{_≡_, refl, ap, _∙_, subst⁻¹}
-use mathlib.Core.Logic.{⊎-elim}
+use mathlib.Core.Logic.{inl, inr, ⊎-elim}
 use mathlib.Core.List.{List, [], _∷_, _++_, map}
 use Prim.Native.Nat.{ℕ, zero, suc, _<_}
 use native.Mathlib.Nat.{eq-or-lt-of-le, suc-inj, le-of-suc-le-suc}
 use native.Mathlib.Omega.{arith}
 use lib.ListN.{length, length-append, getD, List·getD-append}
 use lib.Seq.{getD-at}
+use Rattle.paths.specs.Lists.{Mem}
 use Rattle.concatenated.specs.Lists.{All, Pairs, listed}
 
 pub all-map : {A : Type 0} {P Q : A → Type 0} (xs : List A) → ((x : A) → P x → Q x) → All P xs → All Q xs
 all-map [] f h = tt
 all-map (x ∷ xs) f h = (f x (h .0), all-map xs f (h .1))
+
+pub all-member : {A : Type 0} (P : A → Type 0) (xs : List A) → All P xs → (x : A) → Mem x xs → P x
+all-member P (y ∷ xs) all x (inl e) = subst⁻¹ P e (all .0)
+all-member P (y ∷ xs) all x (inr m) = all-member P xs (all .1) x m
 
 pub all-append : {A : Type 0} (P : A → Type 0) (xs ys : List A) → All P xs → All P ys → All P (xs ++ ys)
 all-append P [] ys h k = k

@@ -13,7 +13,8 @@ use Rattle.paths.specs.Tree.{number as rank}
 use Rattle.paths.specs.Dead.{dead-ahead}
 use Rattle.paths.proofs.Limit.{winner-within-the-limit-is-the-answer, winner-beyond-the-limit-spends-it}
 use Rattle.trellis.specs.Values.{Values}
-use Rattle.trellis.specs.Order.{number}
+use Rattle.trellis.specs.Order.{sum}
+use Rattle.trellis.specs.Trellis.{WordFound, foundWord}
 use Rattle.trellis.specs.Demand.{Search as Kind, whole, supercode, trellis, wholeTrellis, supercodeTrellis, AheadOfAll}
 use Rattle.trellis.proofs.Demand.{Searchable, trellis-sound, winner-is-ahead-of-all, one-codeword-is-ahead-of-all, ranks-differ-by-the-dead-ahead, no-dead-ahead}
 use Rattle.trellis.proofs.Demand
@@ -21,15 +22,15 @@ use Rattle.concatenated.specs.Lists.{All}
 use Rattle.concatenated.specs.Decode.{Reading, found, spent, mark, symbol, symbols}
 use Rattle.concatenated.specs.Readers.{readingOf, readerOf, deadOf, deadAhead, Apart}
 
-never : {X : Type 0} (w m n : ℕ) → found w m ≡ spent n → X
+never : {X : Type 0} (w : WordFound) (m n : ℕ) → found w m ≡ spent n → X
 never w m n e = let z : _≡_ {A = ℕ} 0 1 = cc in absurd (omega arith)
 
-found-inj : (w v m n : ℕ) → found w m ≡ found v n → (w ≡ v) × (m ≡ n)
+found-inj : (w v : WordFound) (m n : ℕ) → found w m ≡ found v n → (w ≡ v) × (m ≡ n)
 found-inj w v m n e = (cc e, cc e)
 
 module _ (S : Shape) (i : ℕ) (given : Searchable S i) (vs : ℕ → Values) (limit : ℕ) (c : List ℕ) where
   module _ (kind : Kind) (w : Path) (best : AheadOfAll S (vs i) c i w) where
-    pub finds-within-the-limit : rank (trellis kind S (vs i) c i) w ≤ limit → readerOf kind S vs limit i c ≡ found (number w) (rank (trellis kind S (vs i) c i) w)
+    pub finds-within-the-limit : rank (trellis kind S (vs i) c i) w ≤ limit → readerOf kind S vs limit i c ≡ found (foundWord (sum (vs i) c) w) (rank (trellis kind S (vs i) c i) w)
     unfolding readerOf readingOf
     finds-within-the-limit l = ap (readingOf limit) (Demand.answers-within-the-limit S i given (vs i) c kind w best limit l)
 
@@ -37,20 +38,20 @@ module _ (S : Shape) (i : ℕ) (given : Searchable S i) (vs : ℕ → Values) (l
     unfolding readerOf readingOf
     is-spent-above-the-limit l = ap (readingOf limit) (Demand.is-spent-above-the-limit S i given (vs i) c kind w best limit l)
 
-    -- the word found is the codeword ahead of all others, its count the number of paths that are prefixes of it or ahead of it
-    pub found-is-ahead-of-all : (x n : ℕ) → readerOf kind S vs limit i c ≡ found x n
-        → (x ≡ number w) × (n ≡ rank (trellis kind S (vs i) c i) w) × (rank (trellis kind S (vs i) c i) w ≤ limit)
+    -- the word found is the codeword ahead of all others, with its low point, and its count the number of paths that are prefixes of it or ahead of it
+    pub found-is-ahead-of-all : (x : WordFound) (n : ℕ) → readerOf kind S vs limit i c ≡ found x n
+        → (x ≡ foundWord (sum (vs i) c) w) × (n ≡ rank (trellis kind S (vs i) c i) w) × (rank (trellis kind S (vs i) c i) w ≤ limit)
     found-is-ahead-of-all x n e = go (decLe (rank (trellis kind S (vs i) c i) w) limit)
       where
-        go : Dec (rank (trellis kind S (vs i) c i) w ≤ limit) → (x ≡ number w) × (n ≡ rank (trellis kind S (vs i) c i) w) × (rank (trellis kind S (vs i) c i) w ≤ limit)
-        go (yes l) = let same = found-inj x (number w) n (rank (trellis kind S (vs i) c i) w) (sym e ∙ finds-within-the-limit l) in (same .0, same .1, l)
+        go : Dec (rank (trellis kind S (vs i) c i) w ≤ limit) → (x ≡ foundWord (sum (vs i) c) w) × (n ≡ rank (trellis kind S (vs i) c i) w) × (rank (trellis kind S (vs i) c i) w ≤ limit)
+        go (yes l) = let same = found-inj x (foundWord (sum (vs i) c) w) n (rank (trellis kind S (vs i) c i) w) (sym e ∙ finds-within-the-limit l) in (same .0, same .1, l)
         go (no l) = never x n limit (sym e ∙ is-spent-above-the-limit (omega arith))
 
   -- a word found is a word of the level
-  pub found-is-a-word : (kind : Kind) (x n : ℕ) → readerOf kind S vs limit i c ≡ found x n → Word (S .bits) (levelCode S i) x
+  pub found-is-a-word : (kind : Kind) (x : WordFound) (n : ℕ) → readerOf kind S vs limit i c ≡ found x n → Word (S .bits) (levelCode S i) (x .column)
   found-is-a-word kind x n e =
       let r = one-codeword-is-ahead-of-all S i given (vs i) c in
-      subst⁻¹ (Word (S .bits) (levelCode S i)) (found-is-ahead-of-all kind (r .0) (r .1) x n e .0) (r .1 .codeword .word)
+      subst⁻¹ (λ (y : WordFound). Word (S .bits) (levelCode S i) (y .column)) (found-is-ahead-of-all kind (r .0) (r .1) x n e .0) (r .1 .codeword .word)
 
   -- so the symbol that the column enters with is in range
   pub symbol-in-range : (kind : Kind) → symbol S i (readerOf kind S vs limit i c) < 2 ^ S .symbol
@@ -58,7 +59,7 @@ module _ (S : Shape) (i : ℕ) (given : Searchable S i) (vs : ℕ → Values) (l
   symbol-in-range kind = go (readerOf kind S vs limit i c) refl
     where
       go : (r : Reading) → readerOf kind S vs limit i c ≡ r → symbol S i (readerOf kind S vs limit i c) < 2 ^ S .symbol
-      go (found x n) e = subst⁻¹ (λ (r : Reading). symbol S i r < 2 ^ S .symbol) e (reimaged-lt S (given .sound) i x (given .level) (found-is-a-word kind x n e .0))
+      go (found x n) e = subst⁻¹ (λ (r : Reading). symbol S i r < 2 ^ S .symbol) e (reimaged-lt S (given .sound) i (x .column) (given .level) (found-is-a-word kind x n e .0))
       go (spent n) e = subst⁻¹ (λ (r : Reading). symbol S i r < 2 ^ S .symbol) e (pow-pos (S .symbol))
 
   -- ---- the two searches
@@ -83,7 +84,7 @@ module _ (S : Shape) (i : ℕ) (given : Searchable S i) (vs : ℕ → Values) (l
       let differ = ranks-differ-by-the-dead-ahead S i given (vs i) c w (best .codeword) in
       let dead = dead-ahead-of-the-codeword w best l in
       subst⁻¹ (λ (r : Reading). Apart (deadAhead S vs limit i c) r (readerOf supercode S vs limit i c)) (finds-within-the-limit whole w best (omega (arith, differ, l)))
-      (subst⁻¹ (Apart (deadAhead S vs limit i c) (found (number w) (rank (wholeTrellis S (vs i) c i) w))) (finds-within-the-limit supercode w best l)
+      (subst⁻¹ (Apart (deadAhead S vs limit i c) (found (foundWord (sum (vs i) c) w) (rank (wholeTrellis S (vs i) c i) w))) (finds-within-the-limit supercode w best l)
       (refl, omega (arith, differ, dead)))
 
   -- where the supercode search is not spent, the whole search finds the same word, and its count is smaller by the dead paths ahead of it

@@ -5,6 +5,7 @@ use mathlib.Core.Path.{_≡_, refl, sym, ap, ap₂, _∙_}
 use Prim.Native.Nat.{ℕ, zero, suc, _+_, _-_, _*_, _/_, _%_, _^_, _≤_, _<_}
 use native.Mathlib.Nat.{zero-add, zero-mul, suc-mul, zero-div, zero-mod, mul-le-mul-right}
 use native.Mathlib.Omega.{arith}
+use lib.IntN.{ℤ}
 use lib.ListN.{length, length-replicate, length-drop, getD-replicate, replicate, take, drop}
 use lib.Seq.{length-take-le, getD-take, getD-drop, ext-getD}
 use borrow.Author.Tests.{eq-eqb}
@@ -17,7 +18,8 @@ use Rattle.concatenated.specs.Lists.{sum, total, listed}
 use Rattle.concatenated.specs.Format.{Format}
 use Rattle.concatenated.specs.Soft.{takenOffBy}
 use Rattle.concatenated.specs.SoftPage.{columnOff, columnPart, softColumns}
-use Rattle.concatenated.specs.Decode.{changed, rowOff}
+use Rattle.trellis.specs.Trellis.{WordFound}
+use Rattle.concatenated.specs.Decode.{found, lows, changed, rowOff}
 use Rattle.concatenated.specs.ZeroPage.{zeroPage}
 use Rattle.concatenated.proofs.Lists.{listed-length, listed-at}
 use Rattle.concatenated.proofs.SoftPages.{part-of-the-page}
@@ -32,6 +34,11 @@ pub sum-replicate : (n x : ℕ) → sum (replicate n x) ≡ n * x
 unfolding sum
 sum-replicate zero x = sym (zero-mul x)
 sum-replicate (suc n) x = omega (arith, sum-replicate n x, suc-mul n x)
+
+pub lows-replicate : (k : ℕ) (w : WordFound) (n : ℕ) → lows (replicate k (found w n)) ≡ replicate k (w .low)
+unfolding lows
+lows-replicate zero w n = refl
+lows-replicate (suc k) w n = ap (λ (zs : List ℤ). w .low ∷ zs) (lows-replicate k w n)
 
 pub total-of-none : (n : ℕ) → total (replicate n false) ≡ 0
 unfolding total

@@ -8,6 +8,7 @@ use lib.ListN.{length, getD}
 use lib.Signed.{ltZ}
 use Rattle.column.specs.Shape.{Shape, Word, levels, levelCode}
 use Rattle.trellis.specs.Values.{Values}
+use Rattle.trellis.specs.Trellis.{WordFound}
 use Rattle.concatenated.specs.Lists.{Pairs}
 use Rattle.concatenated.specs.SoftPage.{Soft, hardReading}
 use Rattle.concatenated.specs.Decode.{found, Reader}
@@ -20,7 +21,7 @@ ReadsAs S i cs ws = Pairs (λ c s. hardReading c ≡ writtenSum S i s) cs ws
 -- a soft column that reads as a word of the level is found to be this word, if its search is not spent
 abbrev pub FindsTheReading : Shape → Reader → Type 0
 FindsTheReading S read =
-    (i : ℕ) → i < levels S → (c : List ℕ) (w n : ℕ) → length c ≡ S .bits → Soft c → Word (S .bits) (levelCode S i) (hardReading c) → read i c ≡ found w n → w ≡ hardReading c
+    (i : ℕ) → i < levels S → (c : List ℕ) (w : WordFound) (n : ℕ) → length c ≡ S .bits → Soft c → Word (S .bits) (levelCode S i) (hardReading c) → read i c ≡ found w n → w .column ≡ hardReading c
 
 -- at each sureness an agreeing value is above a disagreeing one
 abbrev pub AgreeingIsAbove : Values → Type 0

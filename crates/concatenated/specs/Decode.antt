@@ -4,16 +4,19 @@ use mathlib.Core.List.{List, [], _∷_, _++_, map}
 use mathlib.Core.Path.{_≡_}
 use Prim.Native.Nat.{ℕ, zero, suc, _+_, _<_}
 use lib.Dec.{eqb}
+use lib.IntN.{ℤ}
 use Rattle.column.specs.Shape.{Shape, levels}
 use Rattle.column.specs.Level.{levelWord, reimaged}
+use Rattle.paths.specs.Low.{lowest}
+use Rattle.trellis.specs.Trellis.{WordFound}
 use Rattle.reedsolomon.specs.Search.{OuterAnswer, Found, NoneInReach}
 use Rattle.concatenated.specs.Lists.{sum}
 use Rattle.concatenated.specs.SoftPage.{columnOff}
 use Rattle.concatenated.specs.Outer.{RowDecoder}
 
--- what the search of a column gives: a word with its count, or only its count
+-- what the search of a column gives: a word, with its low point and its count, or only its count
 pub data Reading : Type 0 where
-  found : ℕ → ℕ → Reading
+  found : WordFound → ℕ → Reading
   spent : ℕ → Reading
 
 -- a way to read columns: from the level and the soft column
@@ -27,7 +30,7 @@ mark (spent n) = true
 
 -- 01: "re-imaged", "an erased column enters with symbol 0"
 unfoldable pub symbol : Shape → ℕ → Reading → ℕ
-symbol S i (found w n) = reimaged S i w
+symbol S i (found w n) = reimaged S i (w .column)
 symbol S i (spent n) = 0
 
 unfoldable pub count : Reading → ℕ
@@ -39,6 +42,12 @@ symbols S i = map (symbol S i)
 
 abbrev pub marks : List Reading → List Bool
 marks = map mark
+
+-- 02, point 8: the low points of a level's unerased columns, of the words that their searches returned
+unfoldable pub lows : List Reading → List ℤ
+lows [] = []
+lows (found w n ∷ rs) = w .low ∷ lows rs
+lows (spent n ∷ rs) = lows rs
 
 -- the counts of a level together
 abbrev pub steps : List Reading → ℕ
@@ -60,14 +69,15 @@ rowOff S i [] cs = []
 rowOff S i (s ∷ r) [] = []
 rowOff S i (s ∷ r) (c ∷ cs) = columnOff (levelWord S i s) c ∷ rowOff S i r cs
 
--- what a level gives: its row, and the sets of its changed and erased columns
+-- what a level gives: its row, the sets of its changed and erased columns, and the low points of the unerased ones
 pub record Level : Type 0 where
   pub symbols : List ℕ
   pub changed : List Bool
   pub erased : List Bool
+  pub lows : List ℤ
 
 unfoldable pub level : Shape → ℕ → List Reading → List ℕ → Level
-level S i rs r = record { symbols = r; changed = changed (symbols S i rs) (marks rs) r; erased = marks rs }
+level S i rs r = record { symbols = r; changed = changed (symbols S i rs) (marks rs) r; erased = marks rs; lows = lows rs }
 
 -- before a level: the columns, what the lower levels gave, and their steps; or decoding stopped, at a level
 pub data State : Type 0 where
@@ -114,6 +124,15 @@ outcome (stopped l) = refused l
 -- 01: "Page decoding goes level by level."
 unfoldable pub decoded : Shape → RowDecoder → Reader → List (List ℕ) → PageAnswer
 decoded S outer read page = outcome (run S outer read page (levels S))
+
+-- the low points of all levels together
+unfoldable pub allLows : List Level → List ℤ
+allLows [] = []
+allLows (l ∷ ls) = l .lows ++ allLows ls
+
+-- 02, point 8: "a page gives the lowest over its unerased columns at all levels"
+unfoldable pub pageLow : List Level → ℤ
+pageLow ls = lowest (allLows ls)
 
 -- the rows of an answer
 unfoldable pub rows : List Level → List (List ℕ)

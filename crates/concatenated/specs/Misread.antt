@@ -12,7 +12,7 @@ use Rattle.concatenated.specs.Written.{writtenSum}
 
 -- the word returned is another than v; a spent search returns none
 unfoldable pub otherThan : ℕ → Reading → Bool
-otherThan v (found w n) = not (eqb w v)
+otherThan v (found w n) = not (eqb (w .column) v)
 otherThan v (spent n) = false
 
 -- the columns whose word is another than the one in its place of vs

@@ -9,14 +9,14 @@ use Rattle.paths.specs.Search.{SearchResult, answer, limited-search}
 use Rattle.paths.specs.Search
 use Rattle.paths.specs.Dead.{dead-ahead}
 use Rattle.trellis.specs.Values.{Values, levelValues}
-use Rattle.trellis.specs.Trellis.{searched}
+use Rattle.trellis.specs.Trellis.{WordFound, searched}
 use Rattle.trellis.specs.Demand.{Search as Kind, trellis, wholeTrellis, supercodeTrellis}
 use Rattle.concatenated.specs.Lists.{All, sum}
 use Rattle.concatenated.specs.Outer.{RowDecoder}
 use Rattle.concatenated.specs.Decode.{Reading, found, spent, Reader, mark, State, going, stopped, PageAnswer, answered, refused, run, AtEveryLevel}
 
 -- 01: "a spent column counting the limit"
-unfoldable pub readingOf : ℕ → SearchResult ℕ → Reading
+unfoldable pub readingOf : ℕ → SearchResult WordFound → Reading
 readingOf limit (answer w n) = found w n
 readingOf limit (Search.spent n) = spent limit
 
@@ -34,14 +34,14 @@ unfoldable pub deadAhead : Shape → (ℕ → Values) → ℕ → ℕ → List �
 deadAhead S vs limit i c =
     deadOf (dead-ahead (wholeTrellis S (vs i) c i) (supercodeTrellis S (vs i) c i)) (limited-search (supercodeTrellis S (vs i) c i) limit)
 
--- two searches of a column with the same word, or both spent; the second takes d more paths
+-- two searches of a column with the same word and low point, or both spent; the second takes d more paths
 abbrev pub Apart : ℕ → Reading → Reading → Type 0
 Apart d (found w m) (found v n) = (w ≡ v) × (n ≡ m + d)
 Apart d (found w m) (spent n) = ⊥
 Apart d (spent m) (found v n) = ⊥
 Apart d (spent m) (spent n) = n ≡ m + d
 
--- demand 3: both answer with the same rows, changed and erased columns at each level, the second with d more steps; or both refuse with the same level
+-- demand 3: both answer with the same rows, changed and erased columns and low points at each level, the second with d more steps; or both refuse with the same level
 abbrev pub Agree : ℕ → PageAnswer → PageAnswer → Type 0
 Agree d (answered ls m) (answered ks n) = (ls ≡ ks) × (n ≡ m + d)
 Agree d (answered ls m) (refused l) = ⊥

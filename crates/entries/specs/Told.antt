@@ -20,7 +20,7 @@ abbrev pub toldOf : Answer → Told
 toldOf a = record { number = number a; place = place a; value = value a }
 
 abbrev pub foundOf : SearchAnswer → Found
-foundOf a = record { number = searches.number a; place = searches.place a; word = searches.word a; count = searches.count a }
+foundOf a = record { number = searches.number a; place = searches.place a; word = searches.word a; count = searches.count a; low = searches.low a }
 
 abbrev pub replyOf : Outcome → Reply
 replyOf o = record { number = outcomes.number o; place = outcomes.place o }
@@ -33,7 +33,7 @@ pub record Replied (due : Outcome) (made old : List ℕ) (r : Reply) (new : List
 abbrev pub pageReplyOf : PageOutcome → PageReply
 pageReplyOf o =
     let r = o .report in
-    record { number = o .number; place = o .place; steps = r .steps; changed = r .changed; erased = r .erased; «changed_marks» = r .«changed_marks»; «erased_marks» = r .«erased_marks» }
+    record { number = o .number; place = o .place; steps = r .steps; changed = r .changed; erased = r .erased; «changed_marks» = r .«changed_marks»; «erased_marks» = r .«erased_marks»; low = r .low }
 
 -- a page call told r of the outcome that its contract settles, and left `new` in the place of `old`
 pub record PageReplied (s : Search) (soft : List ℕ) (limit : ℕ) (old : List ℕ) (r : PageReply) (new : List ℕ) : Type 0 where

@@ -73,23 +73,26 @@ pub struct Found {
     pub place: u64,
     pub word: u64,
     pub count: u64,
+    pub low: i16,
 }
 
 fn numbers_of_search(answer: SearchAnswer) -> Found
     ensures { λ r. ⌜ r ≡ foundOf answer ⌝ }
 {
     match answer {
-        SearchAnswer::Found(w, c) => Found {
+        SearchAnswer::Found(w, c, z) => Found {
             number: 0,
             place: 0,
             word: w,
             count: c,
+            low: z,
         },
         SearchAnswer::Refused(n, p) => Found {
             number: n,
             place: p,
             word: 0,
             count: 0,
+            low: 0,
         },
     }
 }
@@ -179,6 +182,7 @@ pub struct PageReply {
     pub erased: [u8; 4],
     pub changed_marks: [u64; 4],
     pub erased_marks: [u64; 4],
+    pub low: i16,
 }
 
 fn numbers_of_page(outcome: PageOutcome) -> PageReply
@@ -197,6 +201,7 @@ fn numbers_of_page(outcome: PageOutcome) -> PageReply
         erased: erased,
         changed_marks: changed_marks,
         erased_marks: erased_marks,
+        low: report.low,
     }
 }
 

@@ -28,7 +28,8 @@ use Rattle.stack.specs.Places.{Upto, Small, Out}
 use Rattle.extension.specs.Steps.{Given, Good, Held, tableExtension, tableNodes, Next, Advanced}
 use Rattle.stack.proofs.KeyOrder.{key-dec, upto-same, upto-anti, upto-trans}
 use Rattle.stack.proofs.Outs.{stay}
-use Rattle.stack.proofs.Sums.{add-near, near-fits}
+use Rattle.trellis.proofs.Sums.{add-near}
+use Rattle.stack.proofs.Sums.{near-fits}
 use Rattle.extension.proofs.NextBit.{check, no-mask, let-in, dead-in, one-in, bit-less}
 use Rattle.extension.proofs.Growing.{ordered-grow, weigh-full, weigh-none, weigh-one, weigh-both}
 

@@ -12,7 +12,7 @@ use Rattle.stack.proofs.KeyOrder.{upto-not, upto-trans}
 
 module _ (E : Bool → Key → Key) (X F : Key → Bool) where
   abbrev N : Nodes Key
-  N = record { extension = E; before = keyBefore; exists = X; full = F }
+  N = record { extension = E; sum = λ k. k .sum; before = keyBefore; exists = X; full = F }
 
   after-cond : (t : Bool) (y : Key) (a b : List Key) → AllAfter Upto y a → AllAfter Upto y b → AllAfter Upto y (cond t a b)
   after-cond true y a b p q = p

@@ -60,6 +60,7 @@ tableExtension table soft b k = key (k .sum +ℤ getD table (bit b * 8 + getD so
 abbrev pub tableNodes : ℕ → List ℤ → List ℕ → List ℕ → List ℕ → Nodes Key
 tableNodes n table soft left right = record {
   extension = tableExtension table soft;
+  sum = λ k. k .sum;
   before = keyBefore;
   exists = keyPasses left right;
   full = λ k. eqb (k .len) n;

@@ -10,7 +10,7 @@ use Rattle.paths.specs.Lists.{filter}
 use Rattle.paths.specs.Paths.{Path}
 use Rattle.paths.specs.Tree.{Tree}
 use Rattle.trellis.specs.Values.{Values}
-use Rattle.trellis.specs.Order.{number, before}
+use Rattle.trellis.specs.Order.{number, sum, before}
 
 -- the rows 1101 and 0111
 abbrev pub topRow : ℕ
@@ -43,10 +43,10 @@ beginsSome [] p = false
 beginsSome (w ∷ words) p = leb (length p) 4 && eqb (w / 2 ^ (4 - length p)) (number p) || beginsSome words p
 
 abbrev pub fourBitWhole : Values → List ℕ → Tree
-fourBitWhole vs soft = record { size = 4; before = before vs soft; exists = beginsSome wholeWords }
+fourBitWhole vs soft = record { size = 4; sum = sum vs soft; before = before vs soft; exists = beginsSome wholeWords }
 
 abbrev pub fourBitSupercode : Values → List ℕ → Tree
-fourBitSupercode vs soft = record { size = 4; before = before vs soft; exists = λ p. beginsSome topWords p && beginsSome lowWords p }
+fourBitSupercode vs soft = record { size = 4; sum = sum vs soft; before = before vs soft; exists = λ p. beginsSome topWords p && beginsSome lowWords p }
 
 -- 01: "reading 0010, values +3 and −28", at every sureness
 abbrev pub valuesOf001 : Values

@@ -3,8 +3,10 @@ use mathlib.Core.Bool.{Bool, true, false, true≢false}
 use mathlib.Core.List.{List, map}
 use mathlib.Core.Path.{_≡_, refl, sym, ap, ap₂, _∙_, subst⁻¹}
 use Prim.Native.Nat.{ℕ, _<_}
+use lib.IntN.{ℤ}
 use lib.ListN.{length, length-map}
 use Rattle.column.specs.Shape.{short}
+use Rattle.paths.specs.Low.{lowest-from}
 use Rattle.trellis.specs.Values.{levelValues}
 use Rattle.trellis.specs.Demand.{Search as Kind}
 use Rattle.trellis.proofs.Short.{searchable}
@@ -12,7 +14,7 @@ use Rattle.reedsolomon.specs.Search.{WordOf, OuterAnswer, Found, NoneInReach}
 use Rattle.reedsolomon.specs.Row.{Symbols, outerAnswer, wordOf, isFound, RowDecoded}
 use Rattle.concatenated.specs.Format.{shortRoots}
 use Rattle.concatenated.specs.SoftPage.{Soft}
-use Rattle.concatenated.specs.Decode.{Reading, symbol, symbols, mark, marks, changed, rowOff, decodedRow}
+use Rattle.concatenated.specs.Decode.{Reading, symbol, symbols, mark, marks, lows, changed, rowOff, decodedRow}
 use Rattle.concatenated.specs.Readers.{shortReader}
 use Rattle.concatenated.specs.Flags.{flag, isOne}
 use Rattle.concatenated.specs.Marks.{markOf}
@@ -29,9 +31,9 @@ use Rattle.concatenated.proofs.Searches.{symbols-in-range}
 use Rattle.concatenated.proofs.OuterJoint.{flags-back, outer-laws}
 
 -- a level's symbols and flags are as many as its columns
-pub read-long : (kind : Kind) (limit i : ℕ) (work : List (List ℕ)) (xs ms : List ℕ) (n : ℕ) → length work ≡ 63 → RowRead i (map (shortReader kind limit i) work) xs ms n
+pub read-long : (kind : Kind) (limit i : ℕ) (work : List (List ℕ)) (z₀ : ℤ) (xs ms : List ℕ) (n : ℕ) (z : ℤ) → length work ≡ 63 → RowRead i (map (shortReader kind limit i) work) z₀ xs ms n z
     → (length xs ≡ 63) × (length ms ≡ 63)
-read-long kind limit i work xs ms n e read =
+read-long kind limit i work z₀ xs ms n z e read =
     let rs = map (shortReader kind limit i) work in
     let long : length rs ≡ 63 = length-map work (shortReader kind limit i) ∙ e in (
       ap length (read .symbols-are) ∙ length-map rs (symbol short i) ∙ long,
@@ -39,8 +41,8 @@ read-long kind limit i work xs ms n e read =
     )
 
 -- they are symbols
-pub read-symbols : (kind : Kind) (limit i : ℕ) → i < 4 → (work : List (List ℕ)) (xs ms : List ℕ) (n : ℕ) → RowRead i (map (shortReader kind limit i) work) xs ms n → Symbols 6 xs
-read-symbols kind limit i h work xs ms n read =
+pub read-symbols : (kind : Kind) (limit i : ℕ) → i < 4 → (work : List (List ℕ)) (z₀ : ℤ) (xs ms : List ℕ) (n : ℕ) (z : ℤ) → RowRead i (map (shortReader kind limit i) work) z₀ xs ms n z → Symbols 6 xs
+read-symbols kind limit i h work z₀ xs ms n z read =
     let ys = symbols short i (map (shortReader kind limit i) work) in
     subst⁻¹ (Symbols 6) (read .symbols-are) (word-is-of-symbols 6 (length ys) ys (below-is-word 64 ys (symbols-in-range short i (searchable i h) levelValues limit kind work)))
 
@@ -59,7 +61,7 @@ soft-off i r work after long s e =
       soft = row-off-all short (λ c. (length c ≡ 30) × Soft c) (λ w c h. (off-length w c ∙ h .0, column-stays-soft w c (h .1))) i r work (s .soft);
     })
 
-module _ (i : ℕ) (h : i < 4) (rs : List Reading) (long : length rs ≡ 63) (xs ms : List ℕ) (n : ℕ) (read : RowRead i rs xs ms n) (t : ℕ) (et : t ≡ shortRoots i) (settled : Bool) (old new : List ℕ)
+module _ (i : ℕ) (h : i < 4) (rs : List Reading) (long : length rs ≡ 63) (z₀ : ℤ) (xs ms : List ℕ) (n : ℕ) (z : ℤ) (read : RowRead i rs z₀ xs ms n z) (t : ℕ) (et : t ≡ shortRoots i) (settled : Bool) (old new : List ℕ)
     (given : RowDecoded (outerAnswer 6 67 63 t xs ms) settled old new) where
   -- the row of a level is the outer code's answer on what was read
   row-is : decodedRow short shortOuter i rs ≡ outerAnswer 6 67 63 t xs ms
@@ -87,19 +89,20 @@ module _ (i : ℕ) (h : i < 4) (rs : List Reading) (long : length rs ≡ 63) (xs
   pub settled-row-is-a-word : settled ≡ true → WordOf 64 63 new
   settled-row-is-a-word e = row-is-a-word i h rs long new (is-row e)
 
-  -- a level with no row, and one with a row
-  pub level-refused : settled ≡ false → (work after : List (List ℕ)) (out : LevelOut) → out .settled ≡ false → Ended (decodedRow short shortOuter i rs) i rs work out after
-  level-refused e work after out f = subst⁻¹ (λ (o : OuterAnswer). Ended o i rs work out after) (no-row e) f
+  -- a level with no row, and one with a row; y is the lowest low point before it
+  pub level-refused : settled ≡ false → (y : ℤ) (work after : List (List ℕ)) (out : LevelOut) → out .settled ≡ false → Ended (decodedRow short shortOuter i rs) i rs y work out after
+  level-refused e y work after out f = subst⁻¹ (λ (o : OuterAnswer). Ended o i rs y work out after) (no-row e) f
 
-  pub level-settled : settled ≡ true → (work after : List (List ℕ)) (out : LevelOut) → out .settled ≡ true → out .row ≡ new → out .changed ≡ markOf (changed xs (map isOne ms) new) → out .erased ≡ markOf (map isOne ms)
-      → out .count ≡ n → after ≡ rowOff short i new work → Ended (decodedRow short shortOuter i rs) i rs work out after
-  level-settled e work after out e0 e1 e2 e3 e4 e5 =
+  pub level-settled : settled ≡ true → (y : ℤ) → z₀ ≡ y → (work after : List (List ℕ)) (out : LevelOut) → out .settled ≡ true → out .row ≡ new → out .changed ≡ markOf (changed xs (map isOne ms) new) → out .erased ≡ markOf (map isOne ms)
+      → out .count ≡ n → out .low ≡ z → after ≡ rowOff short i new work → Ended (decodedRow short shortOuter i rs) i rs y work out after
+  level-settled e y start work after out e0 e1 e2 e3 e4 e5 e6 =
       let marked : map isOne ms ≡ marks rs = ap (map isOne) (read .marks-are) ∙ flags-back (marks rs) in
-      subst⁻¹ (λ (o : OuterAnswer). Ended o i rs work out after) (is-row e) (
+      subst⁻¹ (λ (o : OuterAnswer). Ended o i rs y work out after) (is-row e) (
         e0,
         e1,
         e2 ∙ ap₂ (λ (x : List ℕ) (m : List Bool). markOf (changed x m new)) (read .symbols-are) marked,
         e3 ∙ ap markOf marked,
         e4 ∙ read .steps-are,
-        e5,
+        e5 ∙ read .low-is ∙ ap (λ (x : ℤ). lowest-from x (lows rs)) start,
+        e6,
       )

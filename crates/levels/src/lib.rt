@@ -10,18 +10,19 @@ ghost use Rattle.levels.specs.Levels.{LevelDone, ColumnsDone};
 use softpage::rows;
 use softpage::sets;
 
-// What a level gives: its row, the marks of its changed and erased columns, its steps; or no word was in reach.
+// What a level gives: its row, the marks of its changed and erased columns, its steps, the lowest low point so far; or no word was in reach.
 pub struct LevelOut {
     row: [u8; 63],
     changed: u64,
     erased: u64,
     count: u64,
+    low: i16,
     settled: bool,
 }
 
-// The steps of all levels, or the level that was refused.
+// The steps of all levels and their lowest low point, or the level that was refused.
 pub enum ColumnsOutcome {
-    Answered(u64),
+    Answered(u64, i16),
     Refused(u64),
 }
 
@@ -31,21 +32,23 @@ fn decode_level(
     level: usize,
     limit: u64,
     in_supercodes: bool,
+    lowest: i16,
     sums: &mut [i16; 2002],
     lens: &mut [u8; 2002],
     bits: &mut [u64; 2002],
 ) -> LevelOut
     requires { ⌜ (level < 4) × (limit ≤ 2000) × SoftColumns (now work) × Room (now sums) (now lens) (now bits) ⌝ }
-    ensures { λ r. ⌜ LevelDone (shortReader (searchOf in_supercodes) limit) level (now (work .entry)) r (now (work .exit)) × (r .count ≤ 126000)
+    ensures { λ r. ⌜ LevelDone (shortReader (searchOf in_supercodes) limit) level lowest (now (work .entry)) r (now (work .exit)) × (r .count ≤ 126000)
         × SoftColumns (now (work .exit)) × Room (now (sums .exit)) (now (lens .exit)) (now (bits .exit)) ⌝ }
 {
     let mut symbols = [0u8; 63];
     let mut marks = [0u8; 63];
-    let count = readings::read_row(
+    let read = readings::read_row(
         level,
         &*work,
         limit,
         in_supercodes,
+        lowest,
         sums,
         lens,
         bits,
@@ -62,7 +65,8 @@ fn decode_level(
             row: row,
             changed: changed,
             erased: erased,
-            count: count,
+            count: read.steps,
+            low: read.low,
             settled: true,
         };
     }
@@ -70,7 +74,8 @@ fn decode_level(
         row: row,
         changed: 0,
         erased: 0,
-        count: count,
+        count: read.steps,
+        low: read.low,
         settled: false,
     }
 }
@@ -92,6 +97,7 @@ pub fn decode_columns(
     ensures { λ r. ⌜ ColumnsDone (shortReader (searchOf in_supercodes) limit) (now (work .entry)) r (now (held .exit)) (now (changed .exit)) (now (erased .exit)) ⌝ }
 {
     let mut sum: u64 = 0;
+    let mut low: i16 = search::NONE_TAKEN;
     let mut level: usize = 0;
     while level < 4 {
         let out = decode_level(
@@ -99,6 +105,7 @@ pub fn decode_columns(
             level,
             limit,
             in_supercodes,
+            low,
             &mut *sums,
             &mut *lens,
             &mut *bits,
@@ -112,7 +119,8 @@ pub fn decode_columns(
         changed[level] = out.changed;
         erased[level] = out.erased;
         sum += out.count;
+        low = out.low;
         level += 1;
     }
-    ColumnsOutcome::Answered(sum)
+    ColumnsOutcome::Answered(sum, low)
 }

@@ -7,6 +7,7 @@ use lib.Bits.{bitXor}
 use lib.ListN.{length, take, drop, getD, length-take, length-drop}
 use lib.Seq.{getD-drop, getD-take}
 use Rattle.paths.specs.Search.{SearchResult}
+use Rattle.trellis.specs.Trellis.{WordFound}
 use Rattle.search.specs.Outcomes.{codeOutcome}
 use Rattle.search.specs.declared.SearchOutcome.{SearchOutcome}
 use Rattle.measured.specs.Folds.{folded, foldedColumns}
@@ -22,10 +23,10 @@ module _ (soft : List ℕ) (a : ℕ) (fits : a + 30 ≤ length soft) where
       at = let within : k < a + 30 - a = omega arith in rw (getD-take, getD-drop)
 
 -- the columns before a, whole columns, are searched
-pub record Folded (search : List ℕ → SearchResult ℕ) (soft : List ℕ) (a fold : ℕ) : Type 0 where
+pub record Folded (search : List ℕ → SearchResult WordFound) (soft : List ℕ) (a fold : ℕ) : Type 0 where
   pub fold-so : fold ≡ foldedColumns search soft (a / 30)
 
-module _ (search : List ℕ → SearchResult ℕ) (soft : List ℕ) where
+module _ (search : List ℕ → SearchResult WordFound) (soft : List ℕ) where
   pub none-folded : Folded search soft 0 0
   unfolding foldedColumns
   none-folded = record { fold-so = refl }

@@ -9,18 +9,19 @@ use Rattle.column.specs.Shape.{short}
 use Rattle.paths.specs.Search.{SearchResult}
 use Rattle.trellis.specs.Values.{levelValues}
 use Rattle.trellis.specs.Demand.{Search, trellis}
-use Rattle.trellis.specs.Trellis.{searched}
+use Rattle.packing.specs.Packing.{sixteenBits}
+use Rattle.trellis.specs.Trellis.{WordFound, searched}
 use Rattle.search.specs.Outcomes.{codeOutcome, searchOf}
 use Rattle.search.specs.declared.SearchOutcome.{SearchOutcome}
 use Rattle.search.specs.declared.SearchOutcome.the-variants.{Found, Spent}
 use Rattle.questions.specs.Questions.{ask, firstAbove}
 
 abbrev pub folded : SearchOutcome → ℕ
-folded (Found w c) = bitXor (w * 2 ^ 11 % 2 ^ 64) c
+folded (Found w c z) = bitXor (bitXor (w * 2 ^ 11 % 2 ^ 64) c) (sixteenBits z * 2 ^ 48 % 2 ^ 64)
 folded Spent = 0
 
 -- the answers of the first j columns
-unfoldable pub foldedColumns : (List ℕ → SearchResult ℕ) → List ℕ → ℕ → ℕ
+unfoldable pub foldedColumns : (List ℕ → SearchResult WordFound) → List ℕ → ℕ → ℕ
 foldedColumns search soft zero = 0
 foldedColumns search soft (suc j) = bitXor (foldedColumns search soft j) (folded (codeOutcome (search (take 30 (drop (j * 30) soft)))))
 

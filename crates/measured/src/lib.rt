@@ -15,7 +15,9 @@ fn folded(found: SearchOutcome) -> u64
     ensures { λ r. ⌜ r ≡ foldedOf found ⌝ }
 {
     match found {
-        SearchOutcome::Found { word, count } => (word << 11) ^ count,
+        SearchOutcome::Found { word, count, low } => {
+            (word << 11) ^ count ^ (packing::sixteen_bits(low) << 48)
+        }
         SearchOutcome::Spent => 0,
     }
 }

@@ -1,2 +1,3 @@
 pub mod Masked
 pub mod Put
+pub mod Signed

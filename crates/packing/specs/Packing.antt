@@ -1,6 +1,9 @@
--- 01: "Rows and page", bytes, symbols and columns by digits: a run of them is one number, its first entry the highest digit. Assumes nothing.
+-- 01: "Rows and page", bytes, symbols and columns by digits: a run of them is one number, its first entry the highest digit; signed numbers in 16 bits. Assumes nothing.
 use mathlib.Core.List.{List, [], _∷_}
-use Prim.Native.Nat.{ℕ, _+_, _*_, _/_, _%_, _^_}
+use mathlib.Core.Bool.{cond}
+use Prim.Native.Nat.{ℕ, _+_, _-_, _*_, _/_, _%_, _^_}
+use lib.Dec.{ltb}
+use lib.IntN.{ℤ, pos, negsuc}
 use Rattle.packing.specs.declared.Symbols.{Symbols}
 use Rattle.packing.specs.declared.Bytes.{Bytes}
 use Rattle.packing.specs.declared.ColumnBytes.{ColumnBytes}
@@ -29,3 +32,11 @@ bytesOf s0 s1 s2 s3 =
 abbrev pub columnBytes : ℕ → ColumnBytes
 columnBytes column =
     record { b0 = digit 256 3 (column * 4); b1 = digit 256 2 (column * 4); b2 = digit 256 1 (column * 4); b3 = digit 256 0 (column * 4) }
+
+-- two's complement: a signed number as 16 bits, and the number that 16 bits are
+abbrev pub sixteenBits : ℤ → ℕ
+sixteenBits (pos n) = n
+sixteenBits (negsuc n) = 65535 - n
+
+abbrev pub signedOf : ℕ → ℤ
+signedOf n = cond (ltb n 32768) (pos n) (negsuc (65535 - n))

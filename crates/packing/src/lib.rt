@@ -1,7 +1,8 @@
 // Three bytes are one number of 24 bits, top byte first; so are four symbols. A written column is 30 bits from the top and two zeros in four bytes.
+// A signed number is written as 16 bits.
 ghost use mathlib.Core.Path.{_≡_};
 ghost use Prim.Native.Nat.{_<_, _^_};
-ghost use Rattle.packing.specs.Packing.{symbolsOf, bytesOf, columnBytes};
+ghost use Rattle.packing.specs.Packing.{symbolsOf, bytesOf, columnBytes, sixteenBits};
 
 pub struct Symbols {
     pub s0: u8,
@@ -57,5 +58,16 @@ pub fn column_bytes(column: u64) -> ColumnBytes
         b1: ((column >> 14) & 255) as u8,
         b2: ((column >> 6) & 255) as u8,
         b3: ((column & 63) << 2) as u8,
+    }
+}
+
+// A signed number as 16 bits, two's complement.
+pub fn sixteen_bits(z: i16) -> u64
+    ensures { λ r. ⌜ r ≡ sixteenBits z ⌝ }
+{
+    if z < 0 {
+        65535 - ((-1 - z) as u64)
+    } else {
+        z as u64
     }
 }

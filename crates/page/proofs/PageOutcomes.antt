@@ -4,6 +4,7 @@ use mathlib.Core.Path.{_≡_, refl, sym, ap, ap₂, _∙_, subst, subst⁻¹}
 use Prim.Native.Nat.{ℕ, zero, suc, _+_, _≤_, _<_}
 use native.Mathlib.Omega.{arith}
 use lib.Count.{ones}
+use lib.IntN.{ℤ}
 use lib.ListN.{length, length-append, getD, take, drop, take-append-drop}
 use lib.Seq.{length-take-le}
 use Rattle.column.specs.Shape.{short}
@@ -11,7 +12,7 @@ use Rattle.reedsolomon.specs.Search.{WordOf}
 use Rattle.concatenated.specs.Format.{shortPage, dataBefore, dataCount}
 use Rattle.concatenated.specs.SoftPage.{Soft, softColumns}
 use Rattle.concatenated.specs.Data.{dataBytes}
-use Rattle.concatenated.specs.Decode.{Reader, Level, rows, PageAnswer, answered, refused, decoded}
+use Rattle.concatenated.specs.Decode.{Reader, Level, pageLow, rows, PageAnswer, answered, refused, decoded}
 use Rattle.concatenated.specs.Written.{rowsData, bytesOfRows}
 use Rattle.concatenated.specs.Marks.{changedMarks, erasedMarks}
 use Rattle.concatenated.specs.Arrays.{SoftColumns, Rows}
@@ -33,9 +34,10 @@ soft-columns soft columns long h e =
     subst⁻¹ SoftColumns e (record { many = as-many-columns shortPage soft; soft = columns-are-soft shortPage soft long h })
 
 -- what the levels left of an answer
-pub record AnsweredBy (d : PageAnswer) (n : ℕ) (held : List (List ℕ)) (changed erased : List ℕ) : Type 0 where
+pub record AnsweredBy (d : PageAnswer) (n : ℕ) (z : ℤ) (held : List (List ℕ)) (changed erased : List ℕ) : Type 0 where
   pub levels : List Level
   pub is : d ≡ answered levels n
+  pub low-is : z ≡ pageLow levels
   pub rows-are : held ≡ rows levels
   pub changed-are : changed ≡ changedMarks levels
   pub erased-are : erased ≡ erasedMarks levels
@@ -44,16 +46,17 @@ pub record AnsweredBy (d : PageAnswer) (n : ℕ) (held : List (List ℕ)) (chang
   pub four-erased : length erased ≡ 4
 
 module _ (read : Reader) (page held : List (List ℕ)) (changed erased : List ℕ) (r : ColumnsOutcome) (done : ColumnsDone read page r held changed erased) where
-  pub is-answered : (n : ℕ) → r ≡ Answered n → AnsweredBy (decoded short shortOuter read page) n held changed erased
+  pub is-answered : (n : ℕ) (z : ℤ) → r ≡ Answered n z → AnsweredBy (decoded short shortOuter read page) n z held changed erased
   unfolding ColumnsDone
-  is-answered n e = go (decoded short shortOuter read page) refl done
+  is-answered n z e = go (decoded short shortOuter read page) refl done
     where
-      go : (d : PageAnswer) → decoded short shortOuter read page ≡ d → Ends d r held changed erased → AnsweredBy (decoded short shortOuter read page) n held changed erased
+      go : (d : PageAnswer) → decoded short shortOuter read page ≡ d → Ends d r held changed erased → AnsweredBy (decoded short shortOuter read page) n z held changed erased
       go (answered ls m) ed h =
           let same : m ≡ n = cc (sym (h .0) ∙ e) in
           record {
             levels = ls;
             is = ed ∙ ap (answered ls) same;
+            low-is = cc (sym (h .0) ∙ e);
             rows-are = h .1;
             changed-are = h .2;
             erased-are = h .3;
@@ -61,14 +64,14 @@ module _ (read : Reader) (page held : List (List ℕ)) (changed erased : List �
             four-changed = h .5;
             four-erased = h .6;
           }
-      go (refused l) ed h = let z : Refused l ≡ Answered n = sym h ∙ e in let y : _≡_ {A = ℕ} 0 1 = cc z in absurd (omega arith)
+      go (refused l) ed h = let never : Refused l ≡ Answered n z = sym h ∙ e in let y : _≡_ {A = ℕ} 0 1 = cc never in absurd (omega arith)
 
   pub is-refused : (l : ℕ) → r ≡ Refused l → decoded short shortOuter read page ≡ refused l
   unfolding ColumnsDone
   is-refused l e = go (decoded short shortOuter read page) refl done
     where
       go : (d : PageAnswer) → decoded short shortOuter read page ≡ d → Ends d r held changed erased → decoded short shortOuter read page ≡ refused l
-      go (answered ls m) ed h = let z : Answered m ≡ Refused l = sym (h .0) ∙ e in let y : _≡_ {A = ℕ} 0 1 = cc z in absurd (omega arith)
+      go (answered ls m) ed h = let z : Answered m (pageLow ls) ≡ Refused l = sym (h .0) ∙ e in let y : _≡_ {A = ℕ} 0 1 = cc z in absurd (omega arith)
       go (refused k) ed h = let same : k ≡ l = cc (sym h ∙ e) in ed ∙ ap refused same
 
 -- a refusal: number 10 with the level as its place, and the data as they were
@@ -103,19 +106,20 @@ rows-data-is-a-word held symbols good e =
     (subst (λ (n : ℕ). WordOf 64 n (rowsData shortPage held 4)) (rows-data-long held good 4 (omega arith) ∙ short-page-numbers .5) (below-is-word 64 (rowsData shortPage held 4) (rows-data-below held good 4 (omega arith))))
 
 -- the outcome and the data of an answer
-module _ (d : PageAnswer) (n : ℕ) (held : List (List ℕ)) (changed erased : List ℕ) (a : AnsweredBy d n held changed erased) where
-  pub answered-outcome : (cs es : List ℕ) → cs ≡ map ones changed → es ≡ map ones erased
-      → record { number = 0; place = 0; report = record { steps = n; changed = cs; erased = es; «changed_marks» = changed; «erased_marks» = erased } } ≡ outcomeOf d
+module _ (d : PageAnswer) (n : ℕ) (z : ℤ) (held : List (List ℕ)) (changed erased : List ℕ) (a : AnsweredBy d n z held changed erased) where
+  pub answered-outcome : (cs es : List ℕ) (low : ℤ) → cs ≡ map ones changed → es ≡ map ones erased → low ≡ z
+      → record { number = 0; place = 0; report = record { steps = n; changed = cs; erased = es; «changed_marks» = changed; «erased_marks» = erased; low = low } } ≡ outcomeOf d
   unfolding outcomeOf
-  answered-outcome cs es ec ee =
-      ap₂ (λ (x y : List ℕ). the-outcome x y changed erased)
+  answered-outcome cs es low ec ee el =
+      ap₂ (λ (x y : List ℕ). the-outcome x y changed erased low)
       (ec ∙ ap (map ones) (a .changed-are) ∙ ones-of-marks (λ l. l .changed) (a .levels))
       (ee ∙ ap (map ones) (a .erased-are) ∙ ones-of-marks (λ l. l .erased) (a .levels))
-      ∙ ap₂ (the-outcome (changedTotals (a .levels)) (erasedTotals (a .levels))) (a .changed-are) (a .erased-are)
+      ∙ ap₂ (λ (x y : List ℕ). the-outcome (changedTotals (a .levels)) (erasedTotals (a .levels)) x y low) (a .changed-are) (a .erased-are)
+      ∙ ap (the-outcome (changedTotals (a .levels)) (erasedTotals (a .levels)) (changedMarks (a .levels)) (erasedMarks (a .levels))) (el ∙ a .low-is)
       ∙ ap outcomeOf (sym (a .is))
     where
-      the-outcome : List ℕ → List ℕ → List ℕ → List ℕ → PageOutcome
-      the-outcome cs es changed erased = record { number = 0; place = 0; report = record { steps = n; changed = cs; erased = es; «changed_marks» = changed; «erased_marks» = erased } }
+      the-outcome : List ℕ → List ℕ → List ℕ → List ℕ → ℤ → PageOutcome
+      the-outcome cs es changed erased low = record { number = 0; place = 0; report = record { steps = n; changed = cs; erased = es; «changed_marks» = changed; «erased_marks» = erased; low = low } }
 
   pub answered-data : (old symbols new : List ℕ) → symbols ≡ rowsData shortPage held 4 → new ≡ dataBytes shortPage symbols → new ≡ dataAfter old d
   unfolding dataAfter bytesOfRows

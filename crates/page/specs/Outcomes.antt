@@ -1,12 +1,13 @@
 -- 01: what page decoding reports, as the code gives it, and the data after it. Assumes nothing.
 use mathlib.Core.List.{List, map}
 use Prim.Native.Nat.{ℕ}
+use lib.IntN.{ℤ, pos}
 use lib.ListN.{replicate}
 use Rattle.page.specs.declared.PageOutcome.{PageOutcome}
 use Rattle.page.specs.declared.Report.{Report}
 use Rattle.concatenated.specs.Lists.{total}
 use Rattle.concatenated.specs.Format.{shortPage}
-use Rattle.concatenated.specs.Decode.{Level, rows, PageAnswer, answered, refused}
+use Rattle.concatenated.specs.Decode.{Level, pageLow, rows, PageAnswer, answered, refused}
 use Rattle.concatenated.specs.Marks.{changedMarks, erasedMarks}
 use Rattle.concatenated.specs.Written.{bytesOfRows}
 
@@ -17,19 +18,19 @@ changedTotals = map (λ l. total (l .changed))
 abbrev pub erasedTotals : List Level → List ℕ
 erasedTotals = map (λ l. total (l .erased))
 
--- a page answer's report: "the steps", and of each level the changed and erased columns, by their totals and their marks
+-- a page answer's report: "the steps", of each level the changed and erased columns, by their totals and their marks, and 02's point 8, the low point
 abbrev pub reportOf : List Level → ℕ → Report
 reportOf ls n =
-    record { steps = n; changed = changedTotals ls; erased = erasedTotals ls; «changed_marks» = changedMarks ls; «erased_marks» = erasedMarks ls }
+    record { steps = n; changed = changedTotals ls; erased = erasedTotals ls; «changed_marks» = changedMarks ls; «erased_marks» = erasedMarks ls; low = pageLow ls }
 
--- a report of n steps, and no column changed or erased at any level
-abbrev pub noColumns : ℕ → Report
-noColumns n =
-    record { steps = n; changed = replicate 4 0; erased = replicate 4 0; «changed_marks» = replicate 4 0; «erased_marks» = replicate 4 0 }
+-- a report of n steps, no column changed or erased at any level, and the low point z
+abbrev pub noColumns : ℕ → ℤ → Report
+noColumns n z =
+    record { steps = n; changed = replicate 4 0; erased = replicate 4 0; «changed_marks» = replicate 4 0; «erased_marks» = replicate 4 0; low = z }
 
--- the report of a refusal: no steps either
+-- the report of a refusal: no steps either, and 0 for the low point
 abbrev pub refusalReport : Report
-refusalReport = noColumns 0
+refusalReport = noColumns 0 (pos 0)
 
 -- what a refusal gives: its number and place, and that report
 abbrev pub refusedPage : ℕ → ℕ → PageOutcome

@@ -18,13 +18,14 @@ use levels::ColumnsOutcome;
 use softpage::look;
 use softpage::sets;
 
-// What page decoding reports: the steps, and of each level how many columns its row changed and how many were erased, and which: marks, column j at bit j.
+// What page decoding reports: the steps; of each level how many columns its row changed and how many were erased, and which: marks, column j at bit j; and the lowest low point of the unerased columns.
 pub struct Report {
     pub steps: u64,
     pub changed: [u8; 4],
     pub erased: [u8; 4],
     pub changed_marks: [u64; 4],
     pub erased_marks: [u64; 4],
+    pub low: i16,
 }
 
 // What page decoding gives: number 0 with the report; or number 10 with the level as the place.
@@ -34,7 +35,7 @@ pub struct PageOutcome {
     pub report: Report,
 }
 
-// What a refusal gives: its number and place; no steps and no columns.
+// What a refusal gives: its number and place; no steps, no columns, and 0 for the low point.
 pub fn refused(number: u64, place: u64) -> PageOutcome
     ensures { λ r. ⌜ r ≡ refusedPage number place ⌝ }
 {
@@ -47,6 +48,7 @@ pub fn refused(number: u64, place: u64) -> PageOutcome
             erased: [0; 4],
             changed_marks: [0; 4],
             erased_marks: [0; 4],
+            low: 0,
         },
     }
 }
@@ -107,7 +109,7 @@ pub fn decode_page(soft: &[u8], limit: u64, in_supercodes: bool, data: &mut [u8]
         &mut erased,
     );
     match outcome {
-        ColumnsOutcome::Answered(steps) => {
+        ColumnsOutcome::Answered(steps, low) => {
             let mut symbols = [0u8; 200];
             data::rows_data(&held, &mut symbols);
             data::bytes_of(&symbols, data);
@@ -120,6 +122,7 @@ pub fn decode_page(soft: &[u8], limit: u64, in_supercodes: bool, data: &mut [u8]
                     erased: sets::totals(&erased),
                     changed_marks: changed,
                     erased_marks: erased,
+                    low: low,
                 },
             }
         }

@@ -1,4 +1,4 @@
--- The search on keys is the search on paths. Assumes nothing.
+-- The search on keys is the search on paths, and the lowest sum that it keeps is the word's low point. Assumes nothing.
 use mathlib.Core.Bool.{Bool, true, false, cond, _&&_}
 use mathlib.Core.List.{List, [], _∷_, map}
 use mathlib.Core.Logic.{_⊎_, inl, inr}
@@ -8,16 +8,20 @@ use native.Mathlib.Omega.{arith}
 use native.Mathlib.Nat.{zero-add, suc-add}
 use lib.Dec.{eqb}
 use borrow.Author.Tests.{eqb-true, eqb-false}
+use lib.IntN.{ℤ}
 use lib.ListN.{length}
-use Rattle.paths.specs.Lists.{Mem}
+use lib.Signed.{_≤ℤ_}
 use Rattle.paths.specs.Paths.{Path}
 use Rattle.paths.specs.Stack.{Nodes, Sorted, insert, push, extend, grow}
 use Rattle.paths.specs.Tree.{Tree, is-full, nodes, Exists, Sound}
 use Rattle.paths.specs.Search.{answer, spent, start, take-head, step, steps, run}
-use Rattle.paths.specs.Keys.{run-keys, stack-after, KeysOf, with-key}
+use Rattle.paths.specs.Low.{lower}
+use Rattle.paths.specs.Keys.{WithLow, run-keys, stack-after, low-after, KeysOf, key-with-low, with-key}
 use Rattle.paths.proofs.Booleans.{is-false}
+use Rattle.paths.proofs.Lists.{of-map}
 use Rattle.paths.proofs.Stack.{grow-length}
 use Rattle.paths.proofs.Invariant.{Invariant, step-invariant, start-invariant}
+use Rattle.paths.proofs.Low.{LowSoFar, low-at-start, low-of-one-more, lowest-taken-is-the-low-point}
 use Rattle.paths.proofs.Run.{answer-is-not-spent}
 
 -- ---- on keys alone
@@ -29,26 +33,32 @@ module _ {A : Type 0} (N : Nodes A) where
   stack-after-length (suc k) [] = omega arith
   stack-after-length (suc k) (x ∷ rest) = omega (arith, stack-after-length k (grow N x rest), grow-length N x rest)
 
-  pub no-keys-left : (accept : A → Bool) (fuel c : ℕ) → run-keys N accept fuel c [] ≡ spent c
+  pub no-keys-left : (accept : A → Bool) (fuel c : ℕ) (z : ℤ) → run-keys N accept fuel c z [] ≡ spent c
   unfolding run-keys
-  no-keys-left accept zero c = refl
-  no-keys-left accept (suc fuel) c = refl
+  no-keys-left accept zero c z = refl
+  no-keys-left accept (suc fuel) c z = refl
 
   -- a run of a + b is the run of b from where a spent run of a stopped
-  pub spent-keys-go-on : (accept : A → Bool) (a b c d : ℕ) (stack : List A) → run-keys N accept a c stack ≡ spent d
-      → run-keys N accept (a + b) c stack ≡ run-keys N accept b d (stack-after N a stack)
-  unfolding run-keys stack-after
-  spent-keys-go-on accept zero b c d stack e =
+  pub spent-keys-go-on : (accept : A → Bool) (a b c d : ℕ) (z : ℤ) (stack : List A) → run-keys N accept a c z stack ≡ spent d
+      → run-keys N accept (a + b) c z stack ≡ run-keys N accept b d (low-after N a z stack) (stack-after N a stack)
+  unfolding run-keys stack-after low-after
+  spent-keys-go-on accept zero b c d z stack e =
       let same : c ≡ d = cc e in
-      ap (λ (k : ℕ). run-keys N accept k c stack) (zero-add b) ∙ ap (λ (k : ℕ). run-keys N accept b k stack) same
-  spent-keys-go-on accept (suc a) b c d [] e = no-keys-left accept (suc a + b) c ∙ e ∙ sym (no-keys-left accept b d)
-  spent-keys-go-on accept (suc a) b c d (x ∷ rest) e =
-      ap (λ (k : ℕ). run-keys N accept k c (x ∷ rest)) (suc-add a b) ∙ go (N .full x && accept x) e (spent-keys-go-on accept a b (suc c) d (grow N x rest))
+      ap (λ (k : ℕ). run-keys N accept k c z stack) (zero-add b) ∙ ap (λ (k : ℕ). run-keys N accept b k z stack) same
+  spent-keys-go-on accept (suc a) b c d z [] e = no-keys-left accept (suc a + b) c z ∙ e ∙ sym (no-keys-left accept b d z)
+  spent-keys-go-on accept (suc a) b c d z (x ∷ rest) e =
+      ap (λ (k : ℕ). run-keys N accept k c z (x ∷ rest)) (suc-add a b) ∙ go (N .full x && accept x) e (spent-keys-go-on accept a b (suc c) d y (grow N x rest))
     where
-      go : (t : Bool) → cond t (answer x (suc c)) (run-keys N accept a (suc c) (grow N x rest)) ≡ spent d
-          → (run-keys N accept a (suc c) (grow N x rest) ≡ spent d → run-keys N accept (a + b) (suc c) (grow N x rest) ≡ run-keys N accept b d (stack-after N a (grow N x rest)))
-          → cond t (answer x (suc c)) (run-keys N accept (a + b) (suc c) (grow N x rest)) ≡ run-keys N accept b d (stack-after N a (grow N x rest))
-      go true k ih = answer-is-not-spent x (suc c) d k
+      y : ℤ
+      y = lower z (N .sum x)
+
+      taken : WithLow A
+      taken = record { key = x; low = y }
+
+      go : (t : Bool) → cond t (answer taken (suc c)) (run-keys N accept a (suc c) y (grow N x rest)) ≡ spent d
+          → (run-keys N accept a (suc c) y (grow N x rest) ≡ spent d → run-keys N accept (a + b) (suc c) y (grow N x rest) ≡ run-keys N accept b d (low-after N a y (grow N x rest)) (stack-after N a (grow N x rest)))
+          → cond t (answer taken (suc c)) (run-keys N accept (a + b) (suc c) y (grow N x rest)) ≡ run-keys N accept b d (low-after N a y (grow N x rest)) (stack-after N a (grow N x rest))
+      go true k ih = answer-is-not-spent taken (suc c) d k
       go false k ih = ih k
 
 -- ---- keys and paths
@@ -81,14 +91,10 @@ module _ (t : Tree) {A : Type 0} (N : Nodes A) (key : Path → A) (keys : KeysOf
       ∙ ap (λ (y : A). push N y (push N (key (false ∷ p)) (map key stack))) (sym (keys .same-extension true p))
       ∙ ap (λ (y : A). push N (N .extension true (key p)) (push N y (map key stack))) (sym (keys .same-extension false p))
 
-  of-keys : (y : A) (stack : List Path) → Mem y (map key stack) → (q : Path) × (y ≡ key q) × Mem q stack
-  of-keys y (q ∷ stack) (inl e) = (q, e, inl refl)
-  of-keys y (q ∷ stack) (inr m) = let r = of-keys y stack m in (r .0, r .1, inr (r .2))
-
   keys-sorted : (stack : List Path) → Sorted (t .before) stack → Sorted (N .before) (map key stack)
   keys-sorted [] s = tt
   keys-sorted (p ∷ stack) s = (
-    λ y m. let r = of-keys y stack m in subst⁻¹ (λ (x : A). N .before (key p) x ≡ true) (r .1) (keys .same-order p (r .0) ∙ s .0 (r .0) (r .2)),
+    λ y m. let r = of-map key y stack m in subst⁻¹ (λ (x : A). N .before (key p) x ≡ true) (r .1) (keys .same-order p (r .0) ∙ s .0 (r .0) (r .2)),
     keys-sorted stack (s .1),
   )
 
@@ -115,25 +121,36 @@ module _ (t : Tree) {A : Type 0} (N : Nodes A) (key : Path → A) (keys : KeysOf
         not-full : eqb 0 (t .size) ≡ true → ⊥
         not-full e = omega (arith, eqb-true 0 (t .size) e, some-size)
 
-    -- a run on keys has the outcome of the run on paths
-    run-keys-from : (accept : A → Bool) (fuel : ℕ) (taken stack : List Path) → Invariant t taken stack
-        → run-keys N accept fuel (length taken) (map key stack) ≡ with-key key (run t (λ p. accept (key p)) fuel (record { taken = taken; stack = stack }))
-    unfolding run-keys run step take-head with-key
-    run-keys-from accept zero taken stack i = refl
-    run-keys-from accept (suc fuel) taken [] i = sym (ap (with-key key) (run-on-empty (λ p. accept (key p)) (suc fuel) taken))
-    run-keys-from accept (suc fuel) taken (p ∷ rest) i =
-        ap (λ (b : Bool). cond (b && accept (key p)) (answer (key p) (suc (length taken))) (run-keys N accept fuel (suc (length taken)) (grow N (key p) (map key rest)))) (keys .same-full p)
-        ∙ ap (λ (l : List A). cond (is-full t p && accept (key p)) (answer (key p) (suc (length taken))) (run-keys N accept fuel (suc (length taken)) l))
-        (sym (grow-keys p rest (i .there p (inr (inl refl)))))
-        ∙ go (is-full t p && accept (key p)) (run-keys-from accept fuel (p ∷ taken) (grow (nodes t) p rest) (step-invariant t sound (record { taken = taken; stack = p ∷ rest }) i))
-      where
-        go : (b : Bool)
-            → run-keys N accept fuel (suc (length taken)) (map key (grow (nodes t) p rest))
-            ≡ with-key key (run t (λ p. accept (key p)) fuel (record { taken = p ∷ taken; stack = grow (nodes t) p rest }))
-            → cond b (answer (key p) (suc (length taken))) (run-keys N accept fuel (suc (length taken)) (map key (grow (nodes t) p rest)))
-            ≡ with-key key (cond b (answer p (suc (length taken))) (run t (λ p. accept (key p)) fuel (record { taken = p ∷ taken; stack = grow (nodes t) p rest })))
-        go true ih = refl
-        go false ih = ih
+    module _ (z₀ : ℤ) (high : (w : Path) → Exists t w → t .sum w ≤ℤ z₀) where
+      -- a run on keys has the outcome of the run on paths, the word with its low point
+      run-keys-from : (accept : A → Bool) (fuel : ℕ) (taken stack : List Path) (z : ℤ) → Invariant t taken stack → LowSoFar t z₀ taken z
+          → run-keys N accept fuel (length taken) z (map key stack) ≡ with-key (key-with-low t key) (run t (λ p. accept (key p)) fuel (record { taken = taken; stack = stack }))
+      unfolding run-keys run step take-head with-key
+      run-keys-from accept zero taken stack z i so = refl
+      run-keys-from accept (suc fuel) taken [] z i so = sym (ap (with-key (key-with-low t key)) (run-on-empty (λ p. accept (key p)) (suc fuel) taken))
+      run-keys-from accept (suc fuel) taken (p ∷ rest) z i so =
+          ap (λ (b : Bool). cond (b && accept (key p)) (answer (told (lower z (N .sum (key p)))) (suc (length taken))) (run-keys N accept fuel (suc (length taken)) (lower z (N .sum (key p))) (grow N (key p) (map key rest)))) (keys .same-full p)
+          ∙ ap (λ (s : ℤ). cond (is-full t p && accept (key p)) (answer (told (lower z s)) (suc (length taken))) (run-keys N accept fuel (suc (length taken)) (lower z s) (grow N (key p) (map key rest)))) (keys .same-sum p)
+          ∙ ap (λ (l : List A). cond (is-full t p && accept (key p)) (answer (told (lower z (t .sum p))) (suc (length taken))) (run-keys N accept fuel (suc (length taken)) (lower z (t .sum p)) l))
+          (sym (grow-keys p rest here))
+          ∙ go (is-full t p && accept (key p)) (run-keys-from accept fuel (p ∷ taken) (grow (nodes t) p rest) (lower z (t .sum p)) (step-invariant t sound (record { taken = taken; stack = p ∷ rest }) i) one-more)
+        where
+          here : Exists t p
+          here = i .there p (inr (inl refl))
+
+          one-more : LowSoFar t z₀ (p ∷ taken) (lower z (t .sum p))
+          one-more = low-of-one-more t z₀ taken p z so
+
+          told : ℤ → WithLow A
+          told y = record { key = key p; low = y }
+
+          go : (b : Bool)
+              → run-keys N accept fuel (suc (length taken)) (lower z (t .sum p)) (map key (grow (nodes t) p rest))
+              ≡ with-key (key-with-low t key) (run t (λ p. accept (key p)) fuel (record { taken = p ∷ taken; stack = grow (nodes t) p rest }))
+              → cond b (answer (told (lower z (t .sum p))) (suc (length taken))) (run-keys N accept fuel (suc (length taken)) (lower z (t .sum p)) (map key (grow (nodes t) p rest)))
+              ≡ with-key (key-with-low t key) (cond b (answer p (suc (length taken))) (run t (λ p. accept (key p)) fuel (record { taken = p ∷ taken; stack = grow (nodes t) p rest })))
+          go true ih = ap (λ (y : ℤ). answer (told y) (suc (length taken))) (lowest-taken-is-the-low-point t sound taken rest p i z₀ (lower z (t .sum p)) (high p here) one-more)
+          go false ih = ih
 
     stack-after-from : (k : ℕ) (taken stack : List Path) → Invariant t taken stack → map key (steps t k (record { taken = taken; stack = stack }) .stack) ≡ stack-after N k (map key stack)
     unfolding stack-after steps step take-head
@@ -151,9 +168,9 @@ module _ (t : Tree) {A : Type 0} (N : Nodes A) (key : Path → A) (keys : KeysOf
     unfolding start
     start-keys = extend-keys [] [] (inl refl) some-size
 
-    -- from the start
-    pub search-on-keys-is-search-on-paths : (accept : A → Bool) (limit : ℕ)
-        → run-keys N accept limit 0 (extend N (key []) []) ≡ with-key key (run t (λ p. accept (key p)) limit (start t))
+    -- from the start, with a number that is below no path's sum: the outcome of the search on paths, the word with its low point
+    pub search-on-keys-is-search-on-paths : (z₀ : ℤ) → ((w : Path) → Exists t w → t .sum w ≤ℤ z₀) → (accept : A → Bool) (limit : ℕ)
+        → run-keys N accept limit 0 z₀ (extend N (key []) []) ≡ with-key (key-with-low t key) (run t (λ p. accept (key p)) limit (start t))
     unfolding start
-    search-on-keys-is-search-on-paths accept limit =
-        ap (run-keys N accept limit 0) (sym start-keys) ∙ run-keys-from accept limit (start t .taken) (start t .stack) (start-invariant t sound)
+    search-on-keys-is-search-on-paths z₀ high accept limit =
+        ap (run-keys N accept limit 0 z₀) (sym start-keys) ∙ run-keys-from z₀ high accept limit (start t .taken) (start t .stack) z₀ (start-invariant t sound) (low-at-start t z₀)

@@ -1,11 +1,13 @@
 pub mod Booleans
 pub mod Lists
+pub mod Integers
 pub mod Prefixes
 pub mod Paths
 pub mod Shared
 pub mod Ahead
 pub mod Stack
 pub mod Invariant
+pub mod Low
 pub mod Taken
 pub mod Steps
 pub mod Arrival

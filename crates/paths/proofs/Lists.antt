@@ -1,6 +1,6 @@
 -- Lists with the same members, and those members that pass a test. Assumes nothing.
 use mathlib.Core.Bool.{Bool, true, false, cond, _&&_, _||_}
-use mathlib.Core.List.{List, [], _∷_, _++_}
+use mathlib.Core.List.{List, [], _∷_, _++_, map}
 use mathlib.Core.Logic.{_⊎_, inl, inr, ⊎-elim}
 use mathlib.Core.Path.{_≡_, refl, sym, ap, _∙_, subst, subst⁻¹}
 use Prim.Native.Nat.{ℕ, suc, _+_, _≤_}
@@ -10,6 +10,14 @@ use native.Mathlib.Decide.{decLe}
 use lib.ListN.{length}
 use Rattle.paths.specs.Lists.{Mem, NoRepeats, filter}
 use Rattle.paths.proofs.Booleans.{not-both}
+
+pub in-map : {A B : Type 0} (f : A → B) (x : A) (l : List A) → Mem x l → Mem (f x) (map f l)
+in-map f x (y ∷ l) (inl e) = inl (ap f e)
+in-map f x (y ∷ l) (inr m) = inr (in-map f x l m)
+
+pub of-map : {A B : Type 0} (f : A → B) (y : B) (l : List A) → Mem y (map f l) → (x : A) × (y ≡ f x) × Mem x l
+of-map f y (x ∷ l) (inl e) = (x, e, inl refl)
+of-map f y (x ∷ l) (inr m) = let r = of-map f y l m in (r .0, r .1, inr (r .2))
 
 module _ {A : Type 0} where
   pub in-append : (x : A) (a b : List A) → Mem x a ⊎ Mem x b → Mem x (a ++ b)

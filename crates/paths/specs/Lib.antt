@@ -1,6 +1,7 @@
 pub mod Lists
 pub mod Paths
 pub mod Order
+pub mod Low
 pub mod Stack
 pub mod Tree
 pub mod Search

@@ -2,11 +2,13 @@
 use mathlib.Core.Bool.{Bool, true, false, cond}
 use mathlib.Core.List.{List, [], _∷_}
 use mathlib.Core.Path.{_≡_}
+use lib.IntN.{ℤ}
 use Rattle.paths.specs.Lists.{Mem}
 
 -- what a search needs to know of its nodes
 pub record Nodes (A : Type 0) : Type 0 where
   pub extension : Bool → A → A
+  pub sum : A → ℤ
   pub before : A → A → Bool
   pub exists : A → Bool
   pub full : A → Bool

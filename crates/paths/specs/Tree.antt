@@ -4,15 +4,18 @@ use mathlib.Core.List.{_∷_}
 use mathlib.Core.Path.{_≡_}
 use Prim.Native.Nat.{ℕ, _≤_, _<_}
 use lib.Dec.{eqb}
+use lib.IntN.{ℤ}
 use lib.ListN.{length}
+use lib.Signed.{_≤ℤ_}
 use Rattle.paths.specs.Lists.{filter}
 use Rattle.paths.specs.Paths.{Path, prefix, paths}
 use Rattle.paths.specs.Order.{Order, ahead, Ahead}
 use Rattle.paths.specs.Stack.{Nodes}
 
--- how many bits a full path has, which path stands before which, and which paths exist; the empty path is no path, so whether it exists counts for nothing
+-- how many bits a full path has, the sums of paths, which path stands before which, and which paths exist; the empty path is no path, so whether it exists counts for nothing
 pub record Tree : Type 0 where
   pub size : ℕ
+  pub sum : Path → ℤ
   pub before : Path → Path → Bool
   pub exists : Path → Bool
 
@@ -22,7 +25,7 @@ is-full t p = eqb (length p) (t .size)
 
 -- the tree's paths as the nodes of a search
 abbrev pub nodes : Tree → Nodes Path
-nodes t = record { extension = λ b p. b ∷ p; before = t .before; exists = t .exists; full = is-full t }
+nodes t = record { extension = λ b p. b ∷ p; sum = t .sum; before = t .before; exists = t .exists; full = is-full t }
 
 -- p is a path of the tree
 pub record Exists (t : Tree) (p : Path) : Type 0 where
@@ -34,9 +37,10 @@ pub record Full (t : Tree) (w : Path) : Type 0 where
   pub there : Exists t w
   pub long : length w ≡ t .size
 
--- what is asked of a tree: the order is strict and total, a path that exists has all its prefixes in the tree and is not too long, and some full path exists
+-- what is asked of a tree: the order is strict and total, no path stands before one with a larger sum, a path that exists has all its prefixes in the tree and is not too long, and some full path exists
 pub record Sound (t : Tree) : Type 0 where
   pub order : Order (t .before)
+  pub sums-fall : (p q : Path) → t .before p q ≡ true → t .sum q ≤ℤ t .sum p
   pub parents : (b c : Bool) (p : Path) → t .exists (b ∷ c ∷ p) ≡ true → t .exists (c ∷ p) ≡ true
   pub short : (p : Path) → t .exists p ≡ true → length p ≤ t .size
   pub some-full : (w : Path) × Full t w

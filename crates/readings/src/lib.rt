@@ -1,12 +1,13 @@
 // The reading of a level: each column is searched, re-imaged and marked.
-ghost use mathlib.Core.List.{map};
+ghost use mathlib.Core.List.{[], _∷_, map};
 ghost use mathlib.Core.Path.{_≡_};
 ghost use Prim.Native.Nat.{_<_, _≤_};
 ghost use lib.ListN.{length};
 ghost use Rattle.column.specs.Shape.{short};
 ghost use Rattle.stack.specs.Places.{Room};
 ghost use Rattle.search.specs.Outcomes.{searchOf};
-ghost use Rattle.concatenated.specs.Decode.{symbol, mark, count};
+ghost use Rattle.paths.specs.Low.{lowest-from};
+ghost use Rattle.concatenated.specs.Decode.{symbol, mark, count, lows};
 ghost use Rattle.concatenated.specs.Readers.{shortReader};
 ghost use Rattle.concatenated.specs.Flags.{flag};
 ghost use Rattle.concatenated.specs.Arrays.{SoftColumns};
@@ -17,41 +18,52 @@ pub struct Entry {
     symbol: u8,
     mark: u8,
     count: u64,
+    low: i16,
 }
 
-// What a column enters the row with: the symbol that its word re-images to, or 0 and a mark.
-fn enter(level: usize, limit: u64, found: SearchOutcome) -> Entry
+// What is read of a level beside its symbols and marks: the steps, and the lowest low point so far.
+pub struct RowTotals {
+    pub steps: u64,
+    pub low: i16,
+}
+
+// What a column enters the row with: the symbol that its word re-images to, or 0 and a mark; and the lowest low point with its own, if it has one.
+fn enter(level: usize, limit: u64, lowest: i16, found: SearchOutcome) -> Entry
     requires { ⌜ (level < 4) × WordInRange found ⌝ }
-    ensures { λ r. ⌜ (r .symbol ≡ symbol short level (asReading limit found)) × (r .mark ≡ flag (mark (asReading limit found))) × (r .count ≡ count (asReading limit found)) ⌝ }
+    ensures { λ r. ⌜ (r .symbol ≡ symbol short level (asReading limit found)) × (r .mark ≡ flag (mark (asReading limit found))) × (r .count ≡ count (asReading limit found))
+        × (r .low ≡ lowest-from lowest (lows (asReading limit found ∷ []))) ⌝ }
 {
     match found {
-        SearchOutcome::Found { word, count } => Entry {
+        SearchOutcome::Found { word, count, low } => Entry {
             symbol: column::reimage(level, word) as u8,
             mark: 0,
             count: count,
+            low: search::lower(lowest, low),
         },
         SearchOutcome::Spent => Entry {
             symbol: 0,
             mark: 1,
             count: limit,
+            low: lowest,
         },
     }
 }
 
-// Searches each column at a level: writes the symbols of the row and the flags of its erased columns, and gives the steps.
+// Searches each column at a level: writes the symbols of the row and the flags of its erased columns, and gives the steps and the lowest of the given and its low points.
 pub fn read_row(
     level: usize,
     work: &[[u8; 30]; 63],
     limit: u64,
     in_supercodes: bool,
+    lowest: i16,
     sums: &mut [i16; 2002],
     lens: &mut [u8; 2002],
     bits: &mut [u64; 2002],
     symbols: &mut [u8; 63],
     marks: &mut [u8; 63],
-) -> u64
+) -> RowTotals
     requires { ⌜ (level < 4) × (limit ≤ 2000) × SoftColumns (now work) × Room (now sums) (now lens) (now bits) × (length (now symbols) ≡ 63) × (length (now marks) ≡ 63) ⌝ }
-    ensures { λ r. ⌜ RowRead level (map (shortReader (searchOf in_supercodes) limit level) (now (work .entry))) (now (symbols .exit)) (now (marks .exit)) r
+    ensures { λ r. ⌜ RowRead level (map (shortReader (searchOf in_supercodes) limit level) (now (work .entry))) lowest (now (symbols .exit)) (now (marks .exit)) (r .steps) (r .low)
         × Room (now (sums .exit)) (now (lens .exit)) (now (bits .exit)) ⌝ }
 {
     let tables = search::short_page::tables_of(level, in_supercodes);
@@ -59,6 +71,7 @@ pub fn read_row(
     let right = tables.right;
     let values = tables.values;
     let mut sum: u64 = 0;
+    let mut low = lowest;
     let mut j: usize = 0;
     while j < 63 {
         let column = work[j];
@@ -72,11 +85,15 @@ pub fn read_row(
             &values,
             limit,
         );
-        let e = enter(level, limit, found);
+        let e = enter(level, limit, low, found);
         symbols[j] = e.symbol;
         marks[j] = e.mark;
         sum += e.count;
+        low = e.low;
         j += 1;
     }
-    sum
+    RowTotals {
+        steps: sum,
+        low: low,
+    }
 }

@@ -11,6 +11,7 @@ use Rattle.column.specs.Mask.{maskOf, MasksOf}
 use Rattle.column.proofs.Checks.{mask-odd-or-zero}
 use Rattle.column.proofs.Short as Shape
 use Rattle.paths.specs.Search.{SearchResult, answer, spent}
+use Rattle.paths.specs.Keys.{WithLow}
 use Rattle.trellis.specs.Values.{Values, levelValues}
 use Rattle.trellis.specs.Keys.{Key, MasksFor, keySearch}
 use Rattle.trellis.specs.Demand.{Search, whole, supercode, trellis}
@@ -18,7 +19,8 @@ use Rattle.trellis.specs.Trellis.{searched}
 use Rattle.extension.specs.Steps.{ZeroOrOdd, Given, TableOf}
 use Rattle.search.specs.Outcomes.{outcomeOf, codeOutcome, TablesFor, Searchable30}
 use Rattle.search.specs.declared.SearchOutcome.{SearchOutcome}
-use Rattle.trellis.proofs.Keys.{by-bits, key-search-is-the-search}
+use Rattle.trellis.proofs.Sums.{level-values-near}
+use Rattle.trellis.proofs.Keys.{by-bits, key-search-is-the-search, few-bits-are-not-above}
 use Rattle.trellis.proofs.Short.{searchable}
 use Rattle.search.proofs.Tables.{table-of, table-length, table-near}
 
@@ -37,7 +39,7 @@ given-short soft left right table s =
       near = s .near;
     }
 
-by-number : (o : SearchResult Key) → outcomeOf o ≡ codeOutcome (by-bits o)
+by-number : (o : SearchResult (WithLow Key)) → outcomeOf o ≡ codeOutcome (by-bits o)
 unfolding outcomeOf codeOutcome
 by-number (answer k c) = refl
 by-number (spent c) = refl
@@ -47,7 +49,7 @@ pub search-short : (s : Search) (i : ℕ) → i < 4 → (soft left right : List 
 search-short s i h soft left right table tables limit r e =
     e (levelValues i) (subst⁻¹ (TableOf (levelValues i)) (tables .values) (table-of (levelValues i)))
     ∙ by-number (keySearch 30 (levelValues i) soft left right limit)
-    ∙ ap codeOutcome (key-search-is-the-search short i (searchable i h) (levelValues i) soft left right s (tables .masks) limit)
+    ∙ ap codeOutcome (key-search-is-the-search short i (searchable i h) (levelValues i) soft left right s (tables .masks) (few-bits-are-not-above 30 60 (levelValues i) soft (level-values-near i h) (lit≤ tt)) limit)
 
 masks-odd : (C : Code) (masks : List ℕ) → ((t : ℕ) → (maskOf 30 C (suc t) ≡ 0) ⊎ (maskOf 30 C (suc t) % 2 ≡ 1)) → MasksOf 30 C masks → (k : ℕ) → k < 30 → ZeroOrOdd (getD masks k 0)
 masks-odd C masks odd of k h = subst ZeroOrOdd (sym (of k h)) (odd k)
@@ -75,5 +77,5 @@ column-searchable s i h soft left right table long range tables =
       soft-range = λ k l. suc-le-suc (range k l);
       left-odd = odd .0;
       right-odd = odd .1;
-      near = λ k l. subst⁻¹ (λ (t : List ℤ). natAbs (getD t k (pos 0)) ≤ 60) (tables .values) (table-near i h k);
+      near = λ k l. subst⁻¹ (λ (t : List ℤ). natAbs (getD t k (pos 0)) ≤ 60) (tables .values) (table-near (levelValues i) (level-values-near i h) k);
     }

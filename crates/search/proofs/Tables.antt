@@ -1,24 +1,25 @@
 -- The table of branch values: its entries, that each lies within 60 of zero, and the raising of 01's table to that of a level. Assumes nothing.
 use mathlib.Core.Bool.{Bool, true, false}
-use mathlib.Core.List.{List, [], _∷_}
+use mathlib.Core.List.{List}
 use mathlib.Core.Logic.{_⊎_, inl, inr, ⊎-elim}
 use mathlib.Core.Path.{_≡_, refl, sym, ap, ap₂, _∙_, subst, subst⁻¹}
-use Prim.Native.Nat.{ℕ, zero, suc, _+_, _*_, _/_, _%_, _≤_, _<_}
+use Prim.Native.Nat.{ℕ, suc, _+_, _*_, _/_, _%_, _≤_, _<_}
 use native.Mathlib.Nat.{eq-or-lt-of-le, le-of-suc-le-suc, suc-inj}
 use native.Mathlib.Omega.{arith}
-use lib.Dec.{T, leb, leb→le}
+use lib.Dec.{ltb}
 use lib.IntN.{ℤ, pos, natAbs, _+ℤ_}
-use lib.ListN.{length, getD, set, length-set}
+use lib.ListN.{length, getD, set, length-set, List·getD-eq-default}
+use borrow.Author.Tests.{ltb-true, ltb-false}
 use lib.Seq.{getD-set-same, getD-set-other, ext-getD}
 use mir.Syntax.{w16}
 use mir.Val.{SFits}
-use Rattle.column.specs.Tabulated.{tabulated}
 use Rattle.column.proofs.Tabulated.{tabulated-length, tabulated-at}
-use Rattle.trellis.specs.Values.{Values, values, levelValues, reading, doubt, branch}
+use Rattle.trellis.specs.Values.{Values, values, levelValues, branch}
 use Rattle.trellis.specs.Order.{bit}
 use Rattle.trellis.proofs.Values.{branch-at-level, level-0-has-the-values-of-01}
 use Rattle.trellis.proofs.Order.{bit-below}
-use Rattle.stack.proofs.Sums.{add-near, near-fits}
+use Rattle.trellis.proofs.Sums.{add-near, Near, level-values-near}
+use Rattle.stack.proofs.Sums.{near-fits}
 use Rattle.extension.specs.Steps.{TableOf, tableOf}
 
 pub table-of : (vs : Values) → TableOf vs (tableOf vs)
@@ -33,32 +34,18 @@ table-of vs = record {
 pub table-length : (vs : Values) → length (tableOf vs) ≡ 16
 table-length vs = tabulated-length (λ k. branch vs (k / 8) (k % 8)) 0 16
 
--- each entry lies within 60 of zero
-abbrev near : List ℤ → Bool
-near [] = true
-near (x ∷ xs) = elim (leb (natAbs x) 60) [ true ↦ near xs | false ↦ false ]
-
-near-at : (xs : List ℤ) → T (near xs) → (k : ℕ) → natAbs (getD xs k (pos 0)) ≤ 60
-near-at [] t k = omega arith
-near-at (x ∷ xs) t k = go (leb (natAbs x) 60) (leb→le (natAbs x) 60) t (near-at xs) k
+-- each entry lies within 60 of zero, if the values do
+pub table-near : (vs : Values) → Near 60 vs → (k : ℕ) → natAbs (getD (tableOf vs) k (pos 0)) ≤ 60
+table-near vs near k = go (ltb k 16) refl
   where
-    go : (b : Bool) → (T b → natAbs x ≤ 60) → T (elim b [ true ↦ near xs | false ↦ false ]) → (T (near xs) → (k : ℕ) → natAbs (getD xs k (pos 0)) ≤ 60) → (k : ℕ) → natAbs (getD (x ∷ xs) k (pos 0)) ≤ 60
-    go false e t others k = absurd t
-    go true e t others zero = e tt
-    go true e t others (suc k) = others t k
-
-pub table-near : (i : ℕ) → i < 4 → (k : ℕ) → natAbs (getD (tableOf (levelValues i)) k (pos 0)) ≤ 60
-unfolding tabulated levelValues branch reading doubt
-table-near zero h = near-at (tableOf (levelValues 0)) tt
-table-near (suc zero) h = near-at (tableOf (levelValues 1)) tt
-table-near (suc (suc zero)) h = near-at (tableOf (levelValues 2)) tt
-table-near (suc (suc (suc zero))) h = near-at (tableOf (levelValues 3)) tt
-table-near (suc (suc (suc (suc i)))) h = absurd (omega arith)
+    go : (t : Bool) → ltb k 16 ≡ t → natAbs (getD (tableOf vs) k (pos 0)) ≤ 60
+    go true e = subst⁻¹ (λ (v : ℤ). natAbs v ≤ 60) (tabulated-at (λ j. branch vs (j / 8) (j % 8)) 16 k (pos 0) (ltb-true k 16 e)) (near (k / 8) (k % 8))
+    go false e = subst⁻¹ (λ (v : ℤ). natAbs v ≤ 60) (List·getD-eq-default (tableOf vs) (pos 0) {n = k} (omega (arith, table-length vs, ltb-false k 16 e))) (omega arith)
 
 -- a value of 01's and what it rises by at a level fit 16 bits, and so does their sum
 pub raising-fits : (i : ℕ) → i < 4 → (k : ℕ) (x : ℤ) → x ≡ getD (tableOf values) k (pos 0) → SFits w16 x × SFits w16 (pos (2 * i)) × SFits w16 (x +ℤ pos (2 * i))
 raising-fits i h k x e =
-    let near : natAbs x ≤ 60 = subst⁻¹ (λ (v : ℤ). natAbs v ≤ 60) e (subst (λ (vs : Values). natAbs (getD (tableOf vs) k (pos 0)) ≤ 60) level-0-has-the-values-of-01 (table-near 0 (omega arith) k)) in
+    let near : natAbs x ≤ 60 = subst⁻¹ (λ (v : ℤ). natAbs v ≤ 60) e (table-near values (subst (Near 60) level-0-has-the-values-of-01 (level-values-near 0 (omega arith))) k) in
     (near-fits x (omega arith), near-fits (pos (2 * i)) (omega arith), near-fits (x +ℤ pos (2 * i)) (omega (arith, add-near x (pos (2 * i)))))
 
 -- the first k entries of a table are raised by r, the others are as they were

@@ -7,20 +7,22 @@ use lib.IntN.{ℤ, pos, natAbs}
 use lib.ListN.{length, getD}
 use Rattle.column.specs.Shape.{short}
 use Rattle.paths.specs.Search.{SearchResult, answer, spent}
+use Rattle.paths.specs.Keys.{WithLow}
 use Rattle.trellis.specs.Values.{levelValues}
+use Rattle.trellis.specs.Trellis.{WordFound}
 use Rattle.trellis.specs.Keys.{Key, MasksFor}
 use Rattle.trellis.specs.Demand.{Search, whole, supercode}
 use Rattle.extension.specs.Steps.{ZeroOrOdd, tableOf}
 use Rattle.search.specs.declared.SearchOutcome.{SearchOutcome}
 use Rattle.search.specs.declared.SearchOutcome.the-variants.{Found, Spent}
 
-unfoldable pub outcomeOf : SearchResult Key → SearchOutcome
-outcomeOf (answer k c) = Found (k .bits) c
+unfoldable pub outcomeOf : SearchResult (WithLow Key) → SearchOutcome
+outcomeOf (answer k c) = Found (k .key .bits) c (k .low)
 outcomeOf (spent c) = Spent
 
--- a word as a column's number, with its count; or spent
-unfoldable pub codeOutcome : SearchResult ℕ → SearchOutcome
-codeOutcome (answer w c) = Found w c
+-- a word as a column's number, with its count and its low point; or spent
+unfoldable pub codeOutcome : SearchResult WordFound → SearchOutcome
+codeOutcome (answer w c) = Found (w .column) c (w .low)
 codeOutcome (spent c) = Spent
 
 -- the tables of a search at a level: its two tables of masks, and the level's branch values

@@ -4,6 +4,7 @@ use mathlib.Core.List.{List}
 use mathlib.Core.Logic.{_⊎_}
 use mathlib.Core.Path.{_≡_}
 use Prim.Native.Nat.{ℕ, _+_, _-_, _≤_, _<_}
+use lib.IntN.{ℤ}
 use Rattle.paths.specs.Stack.{Nodes, grow}
 use Rattle.paths.specs.Search.{answer, spent}
 use Rattle.paths.specs.Keys.{run-keys}
@@ -20,8 +21,8 @@ pub record Standing (size : ℕ) (f : ℕ → Key) (paths count : ℕ) (last : K
   pub held : Every (Held size) f paths
   pub good : Good size last
 
--- From c taken, p the last, xs on the stack, to c′ taken, p′ the last, and the heap's list on the stack: no word was taken but perhaps p′.
-module _ (N : Nodes Key) (size limit : ℕ) (f : ℕ → Key) (c : ℕ) (p : Key) (xs : List Key) (m c′ : ℕ) (p′ : Key) where
+-- From c taken, p the last, z their lowest sum, xs on the stack, to c′ taken, p′ the last, z′ their lowest sum, and the heap's list on the stack: no word was taken but perhaps p′.
+module _ (N : Nodes Key) (size limit : ℕ) (f : ℕ → Key) (c : ℕ) (p : Key) (z : ℤ) (xs : List Key) (m c′ : ℕ) (p′ : Key) (z′ : ℤ) where
   -- no word was taken on the way: every run goes on from there
   pub record Going : Type 0 where
     pub rest : List Key
@@ -29,7 +30,7 @@ module _ (N : Nodes Key) (size limit : ℕ) (f : ℕ → Key) (c : ℕ) (p : Key
     pub later : c ≤ c′
     pub within : (c′ ≤ limit) ⊎ (c′ ≡ c)
     pub partial : (p′ .len < size) ⊎ (p′ ≡ p)
-    pub same : (accept : Key → Bool) (fuel : ℕ) → run-keys N accept (fuel + (c′ - c)) c (grow N p xs) ≡ run-keys N accept fuel c′ (grow N p′ rest)
+    pub same : (accept : Key → Bool) (fuel : ℕ) → run-keys N accept (fuel + (c′ - c)) c z (grow N p xs) ≡ run-keys N accept fuel c′ z′ (grow N p′ rest)
 
   -- p′ is a word, the first taken: every run that accepts it answers it, and every other goes on from there
   pub record Answered : Type 0 where
@@ -38,14 +39,14 @@ module _ (N : Nodes Key) (size limit : ℕ) (f : ℕ → Key) (c : ℕ) (p : Key
     pub later : c < c′
     pub within : c′ ≤ limit
     pub full : p′ .len ≡ size
-    pub same : (accept : Key → Bool) (fuel : ℕ) → run-keys N accept (fuel + (c′ - c)) c (grow N p xs) ≡ cond (accept p′) (answer p′ c′) (run-keys N accept fuel c′ (grow N p′ rest))
+    pub same : (accept : Key → Bool) (fuel : ℕ) → run-keys N accept (fuel + (c′ - c)) c z (grow N p xs) ≡ cond (accept p′) (answer (record { key = p′; low = z′ }) c′) (run-keys N accept fuel c′ z′ (grow N p′ rest))
 
   -- the stack is empty: every run ends there
   pub record Ended : Type 0 where
     pub later : c ≤ c′
     pub within : c′ < limit
     pub none : p′ .len ≡ 0
-    pub same : (accept : Key → Bool) (fuel : ℕ) → run-keys N accept (fuel + (c′ - c)) c (grow N p xs) ≡ spent c′
+    pub same : (accept : Key → Bool) (fuel : ℕ) → run-keys N accept (fuel + (c′ - c)) c z (grow N p xs) ≡ spent c′
 
   -- the limit is reached, or a word is taken, or the stack is empty
   pub record Reached : Type 0 where

@@ -1,33 +1,14 @@
--- Sizes of sums, and sums in 16 bits. Assumes nothing.
-use Prim.Native.Nat.{ℕ, suc, _+_, _≤_, _<_}
+-- Sums in 16 bits. Assumes nothing.
+use Prim.Native.Nat.{_<_}
 use native.Mathlib.Omega.{arith}
-use native.Mathlib.Nat.{le-refl}
-use mathlib.Core.Bool.{Bool, true, false}
-use mathlib.Core.Path.{_≡_, refl, sym, ap, ap₂, _∙_, subst⁻¹}
-use lib.IntN.{ℤ, pos, negsuc, natAbs, _+ℤ_, subℕ}
-use lib.Signed.{mag, ltZ}
-use lib.Dec.{ltb}
-use borrow.Author.Tests.{ltb-true, ltb-false}
+use mathlib.Core.Bool.{Bool}
+use mathlib.Core.Path.{_≡_, sym, ap, ap₂, _∙_, subst⁻¹}
+use lib.IntN.{ℤ, natAbs, _+ℤ_}
+use lib.Signed.{ltZ}
 use mir.Syntax.{w16}
 use mir.Val.{SFits, toZ, ofZ}
 use mir.Facts.{toZ-ofZ}
-
-sub-near : (a b : ℕ) → natAbs (subℕ a b) ≤ a + b
-sub-near a b = go (ltb a b) refl
-  where
-    go : (t : Bool) → ltb a b ≡ t → natAbs (subℕ a b) ≤ a + b
-    go true e = rw e (omega (arith, ltb-true a b e))
-    go false e = rw e (omega (arith, ltb-false a b e))
-
-pub add-near : (y z : ℤ) → natAbs (y +ℤ z) ≤ natAbs y + natAbs z
-add-near (pos a) (pos b) = le-refl (a + b)
-add-near (pos a) (negsuc b) = sub-near a (suc b)
-add-near (negsuc a) (pos b) = omega (arith, sub-near b (suc a))
-add-near (negsuc a) (negsuc b) = omega arith
-
-pub mag-le : (z : ℤ) → mag z ≤ natAbs z
-mag-le (pos n) = omega arith
-mag-le (negsuc n) = omega arith
+use Rattle.trellis.proofs.Sums.{mag-le}
 
 pub near-fits : (z : ℤ) → natAbs z < 32768 → SFits w16 z
 near-fits z h = record { sfits = omega (arith, mag-le z) }

@@ -18,11 +18,11 @@ module _ (soft : List ℕ) (limit : ℕ) (bytes report : List ℕ) {A : Type 0} 
   no-to-soft-length other = simp (ne-eqb _ _ other)
 
   -- one output of another length is 2, whatever the other has
-  pub no-to-report-length : length soft ≡ 1890 → (length report ≡ 76 → ⊥) → askDecode soft limit bytes report refusal next ≡ refusal 2 0
+  pub no-to-report-length : length soft ≡ 1890 → (length report ≡ 78 → ⊥) → askDecode soft limit bytes report refusal next ≡ refusal 2 0
   no-to-report-length long other = simp (eq-eqb _ _ long, ne-eqb _ _ other) (either (λ (x : A). x ≡ refusal 2 0) (eqb (length bytes) 150) (refusal 2 0) (refusal 2 0) refl refl)
 
   -- with room for the report they are the questions of page decoding
-  pub report-has-room : length report ≡ 76 → askDecode soft limit bytes report refusal next ≡ askPage soft limit bytes refusal next
+  pub report-has-room : length report ≡ 78 → askDecode soft limit bytes report refusal next ≡ askPage soft limit bytes refusal next
   report-has-room room =
       ap (λ (t : Bool). ask (eqb (length soft) 1890) (refusal 1 0) (ask (eqb (length bytes) 150) (refusal 2 0) (ask t (refusal 2 0) (askLimitAndValues soft limit refusal next)))) (eq-eqb _ _ room)
 
@@ -31,5 +31,5 @@ module _ (soft : List ℕ) (limit : ℕ) (bytes report : List ℕ) {A : Type 0} 
   every-way-for-c P r n =
       either P (eqb (length soft) 1890) _ _ (r 1 0 (omega arith) (omega arith) (omega arith))
       (either P (eqb (length bytes) 150) _ _ (r 2 0 (omega arith) (omega arith) (omega arith))
-      (either P (eqb (length report) 76) _ _ (r 2 0 (omega arith) (omega arith) (omega arith))
+      (either P (eqb (length report) 78) _ _ (r 2 0 (omega arith) (omega arith) (omega arith))
       (any-limit-and-values soft limit P refusal next r n)))

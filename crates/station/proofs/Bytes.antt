@@ -5,7 +5,7 @@ use mathlib.Core.Path.{_≡_, refl, sym, ap, ap₂, _∙_}
 use Prim.Native.Nat.{ℕ, zero, suc, _+_, _-_, _*_, _/_, _%_, _^_, _<_}
 use native.Mathlib.Nat.{eq-or-lt-of-le, not-suc-le-zero, le-of-suc-le-suc, mod-eq-of-lt, pow-suc, suc-inj}
 use native.Mathlib.Omega.{arith}
-use lib.ListN.{length, length-append, getD, take, drop}
+use lib.ListN.{length, length-append, getD, set, take, drop}
 use lib.Pow.{pow-add}
 use lib.Seq.{take-at, drop-at, drop-drop, drop-append-le, drop-append-add}
 use Rattle.packing.specs.Packing.{joined}
@@ -28,6 +28,14 @@ byte-at n i h = ap (λ (w : ℕ). n / w % 256) (byte-weight (7 - i)) ∙ sym (di
 pub four-bytes : (n : ℕ) (rest : List ℕ) → n / 16777216 % 256 ∷ n / 65536 % 256 ∷ n / 256 % 256 ∷ n % 256 ∷ rest ≡ digits 256 4 n ++ rest
 unfolding digits
 four-bytes n rest = let all : n ≡ n / 1 = omega arith in ap (λ (m : ℕ). n / 16777216 % 256 ∷ n / 65536 % 256 ∷ n / 256 % 256 ∷ m % 256 ∷ rest) all
+
+-- two bytes written over two
+pub two-bytes-written : (out : List ℕ) (n : ℕ) → length out ≡ 2 → set (set out 0 (n / 256 % 256)) 1 (n % 256) ≡ digits 256 2 n
+unfolding digits
+two-bytes-written [] n h = absurd (omega (arith, h))
+two-bytes-written (x ∷ []) n h = absurd (omega (arith, h))
+two-bytes-written (x ∷ y ∷ []) n h = let all : n ≡ n / 1 = omega arith in ap (λ (m : ℕ). n / 256 % 256 ∷ m % 256 ∷ []) all
+two-bytes-written (x ∷ y ∷ z ∷ zs) n h = absurd (omega (arith, h))
 
 -- bytes that hold a number give it back
 pub number-comes-back : (k n : ℕ) → n < 256 ^ k → joined 256 0 (digits 256 k n) ≡ n

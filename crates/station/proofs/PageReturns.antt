@@ -34,10 +34,10 @@ module _ (soft : List ℕ) (limit : ℕ) (bytes report : List ℕ) where
   pub refused-by-soft-length : (length soft ≡ 1890 → ⊥) → {r : ℕ} → r ≡ returned 1 0 → PageReturned soft limit bytes report r bytes report
   refused-by-soft-length short = refused-by 1 (λ z. absurd (omega arith)) (λ A refusal next. no-to-soft-length soft limit bytes report refusal next short)
 
-  pub refused-by-report-length : length soft ≡ 1890 → (length report ≡ 76 → ⊥) → {r : ℕ} → r ≡ returned 2 0 → PageReturned soft limit bytes report r bytes report
+  pub refused-by-report-length : length soft ≡ 1890 → (length report ≡ 78 → ⊥) → {r : ℕ} → r ≡ returned 2 0 → PageReturned soft limit bytes report r bytes report
   refused-by-report-length long short = refused-by 2 (λ z. absurd (omega arith)) (λ A refusal next. no-to-report-length soft limit bytes report refusal next long short)
 
-  module _ (room : length report ≡ 76) (o : PageOutcome) (new : List ℕ) (page : PageDecoded supercode soft limit bytes o new) where
+  module _ (room : length report ≡ 78) (o : PageOutcome) (new : List ℕ) (page : PageDecoded supercode soft limit bytes o new) where
     decoded : {r : ℕ} → r ≡ returned (o .number) (o .place) → (newReport : List ℕ) → newReport ≡ reportAfter report o → PageReturned soft limit bytes report r new newReport
     decoded e newReport is =
         let same : o ≡ decodeAnswer soft limit bytes report = page .answer ∙ sym (report-has-room soft limit bytes report refusedPage _ room) in

@@ -13,12 +13,12 @@ use Rattle.store_pages.specs.Pages.{askLimitAndValues, decodedPage}
 use Rattle.station.specs.Returned.{returned}
 use Rattle.station.specs.Report.{reportBytes}
 
--- 1: 1,890 values; 2: 150 bytes of data and 76 of report; 4: the limit; 5: each value
+-- 1: 1,890 values; 2: 150 bytes of data and 78 of report; 4: the limit; 5: each value
 abbrev pub askDecode : {A : Type 0} → List ℕ → ℕ → List ℕ → List ℕ → (ℕ → ℕ → A) → A → A
 askDecode soft limit bytes report refusal next =
     ask (eqb (length soft) 1890) (refusal 1 0)
     (ask (eqb (length bytes) 150) (refusal 2 0)
-    (ask (eqb (length report) 76) (refusal 2 0)
+    (ask (eqb (length report) 78) (refusal 2 0)
     (askLimitAndValues soft limit refusal next)))
 
 abbrev pub decodeAnswer : List ℕ → ℕ → List ℕ → List ℕ → PageOutcome

@@ -13,7 +13,7 @@ ghost use Rattle.store_pages.specs.Pages.{encodePageAnswer, defaultLimit};
 ghost use Rattle.store_dumps.specs.Dumps.{readAnswer};
 ghost use Rattle.questions.specs.Outcome.{number, place};
 ghost use Rattle.station.specs.Returned.{returned, Returned};
-ghost use Rattle.station.specs.Report.{markBytes, stepsAndTotals};
+ghost use Rattle.station.specs.Report.{markBytes, stepsAndTotals, lowBytes};
 ghost use Rattle.station.specs.PageReturned.{PageReturned};
 use page::Report;
 use questions::Outcome;
@@ -88,7 +88,7 @@ fn write_mark(mark: u64, out: &mut [u8])
     }
 }
 
-// The report's other 64 bytes: each level's mark of the changed columns, then that of the erased ones.
+// The report's next 64 bytes: each level's mark of the changed columns, then that of the erased ones.
 fn write_marks(changed: [u64; 4], erased: [u64; 4], out: &mut [u8])
     requires { ⌜ length (now out) ≡ 76 ⌝ }
     ensures { λ _. ⌜ now (out .exit) ≡ take 12 (now (out .entry)) ++ markBytes 4 changed erased ⌝ }
@@ -104,7 +104,17 @@ fn write_marks(changed: [u64; 4], erased: [u64; 4], out: &mut [u8])
     }
 }
 
-// Decodes a soft page of 1,890 values, by the supercode search with the given limit, into `data`, of 150 bytes, and `report`, of 76. Refused by 1, 2, 4, 5 and 10, whose place is the level.
+// The report's last two bytes: the low point, two's complement.
+fn write_low(low: i16, out: &mut [u8])
+    requires { ⌜ length (now out) ≡ 2 ⌝ }
+    ensures { λ _. ⌜ now (out .exit) ≡ lowBytes low ⌝ }
+{
+    let bits = packing::sixteen_bits(low);
+    out[0] = ((bits >> 8) % 256) as u8;
+    out[1] = (bits % 256) as u8;
+}
+
+// Decodes a soft page of 1,890 values, by the supercode search with the given limit, into `data`, of 150 bytes, and `report`, of 78. Refused by 1, 2, 4, 5 and 10, whose place is the level.
 #[no_mangle]
 pub extern "C" fn station_decode_page_limit(
     soft: &[u8],
@@ -117,7 +127,7 @@ pub extern "C" fn station_decode_page_limit(
     if soft.len() != 1890 {
         return returned_number(1, 0);
     }
-    if report.len() != 76 {
+    if report.len() != 78 {
         return returned_number(2, 0);
     }
     let outcome = store_pages::decode_page(soft, limit, data);
@@ -129,9 +139,11 @@ pub extern "C" fn station_decode_page_limit(
     let told = outcome.report;
     let changed = told.changed_marks;
     let erased = told.erased_marks;
+    let low = told.low;
     let front = steps_and_totals(told);
     bytes::copy(&front, report);
-    write_marks(changed, erased, report);
+    write_marks(changed, erased, &mut report[0..76]);
+    write_low(low, &mut report[76..78]);
     returned_number(number, place)
 }
 

@@ -11,7 +11,7 @@ use Rattle.trellis.specs.Values.{levelValues}
 use Rattle.trellis.specs.Demand.{whole, supercode}
 use Rattle.concatenated.specs.Format.{shortPage}
 use Rattle.concatenated.specs.SoftPage.{softColumns}
-use Rattle.concatenated.specs.Decode.{PageAnswer, answered, refused}
+use Rattle.concatenated.specs.Decode.{PageAnswer, answered, refused, pageLow}
 use Rattle.concatenated.specs.Readers.{Agree, NoneSpent, deadAhead, sumBelow, shortReader}
 use Rattle.concatenated.specs.OuterCode.{shortOuter}
 use Rattle.concatenated.specs.Marks.{changedMarks, erasedMarks}
@@ -32,11 +32,12 @@ outcomes-agree d (answered ls m) (answered ks n) e =
       erased = ap erasedTotals (sym (e .0));
       changed-marks = ap changedMarks (sym (e .0));
       erased-marks = ap erasedMarks (sym (e .0));
+      low = ap pageLow (sym (e .0));
       steps = λ z. e .1;
     }
 outcomes-agree d (answered ls m) (refused k) e = absurd e
 outcomes-agree d (refused l) (answered ks n) e = absurd e
-outcomes-agree d (refused l) (refused k) e = record { number = refl; place = sym e; changed = refl; erased = refl; changed-marks = refl; erased-marks = refl; steps = λ z. absurd (omega arith) }
+outcomes-agree d (refused l) (refused k) e = record { number = refl; place = sym e; changed = refl; erased = refl; changed-marks = refl; erased-marks = refl; low = refl; steps = λ z. absurd (omega arith) }
 
 data-agree : (d : ℕ) (old : List ℕ) (w s : PageAnswer) → Agree d w s → dataAfter old s ≡ dataAfter old w
 unfolding dataAfter
@@ -46,7 +47,7 @@ data-agree d old (refused l) (answered ks n) e = absurd e
 data-agree d old (refused l) (refused k) e = refl
 
 refusals-agree : (d n p : ℕ) → (n ≡ 0 → ⊥) → SameButSteps d (refusedPage n p) (refusedPage n p)
-refusals-agree d n p some = record { number = refl; place = refl; changed = refl; erased = refl; changed-marks = refl; erased-marks = refl; steps = λ z. absurd (some z) }
+refusals-agree d n p some = record { number = refl; place = refl; changed = refl; erased = refl; changed-marks = refl; erased-marks = refl; low = refl; steps = λ z. absurd (some z) }
 
 -- the same questions lead both calls to the same refusal, or both on
 asked-alike : (d : ℕ) (soft : List ℕ) (limit : ℕ) (old : List ℕ) (s w : PageOutcome) → SameButSteps d s w → SameButSteps d (askPage soft limit old refusedPage s) (askPage soft limit old refusedPage w)
@@ -69,7 +70,7 @@ module _ (soft : List ℕ) (limit : ℕ) (none-spent : NoneSpent short shortOute
   deadPaths = sumBelow short shortOuter (shortReader supercode limit) (softColumns shortPage soft) (deadAhead short levelValues limit) 4
 
   -- Where no supercode search at levels 1..3 that the supercode decoder makes is spent, both calls give the same bytes, number, place, totals and marks of
-  -- changed and erased columns, and the step sums of an answered page differ by exactly the dead paths ahead.
+  -- changed and erased columns and the same low point, and the step sums of an answered page differ by exactly the dead paths ahead.
   pub decode-page-and-decode-page-whole : (old : List ℕ) (rs rw : PageOutcome) (ns nw : List ℕ)
       → PageDecoded supercode soft limit old rs ns → PageDecoded whole soft limit old rw nw → SameButSteps deadPaths rs rw × (ns ≡ nw)
   decode-page-and-decode-page-whole old rs rw ns nw s w =

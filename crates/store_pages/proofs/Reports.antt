@@ -1,10 +1,11 @@
--- The report of either page decoder, for every input: its totals are the ones of its marks, and its marks are of 63 columns. Assumes nothing.
+-- The report of either page decoder, for every input: its totals are the ones of its marks, its marks are of 63 columns, and its low point is that of its lowest column. Assumes nothing.
 use mathlib.Core.Bool.{Bool, true, false}
 use mathlib.Core.List.{List, [], map}
 use mathlib.Core.Path.{_≡_, refl, sym, ap, _∙_, subst, subst⁻¹}
-use Prim.Native.Nat.{ℕ, _^_, _<_}
+use Prim.Native.Nat.{ℕ, _^_, _≤_, _<_}
 use native.Mathlib.Omega.{arith}
 use lib.Count.{ones}
+use lib.IntN.{pos, natAbs}
 use lib.ListN.{length, length-map, getD, getD-replicate, replicate}
 use Rattle.column.specs.Shape.{short}
 use Rattle.column.proofs.Tabulated.{map-at}
@@ -20,16 +21,17 @@ use Rattle.concatenated.specs.OuterCode.{shortOuter, shortEncoder, ShortCodewor
 use Rattle.concatenated.proofs.Marks.{bit-is-membership, no-bit-above, mark-is-small, ones-of-marks}
 use Rattle.concatenated.proofs.Answers.{LevelSets, answer-is-of-levels, sets-of-levels}
 use Rattle.concatenated.proofs.OuterJoint.{outer-laws}
+use Rattle.concatenated.proofs.Lows.{short-levels-have-an-unerased-column, short-page-low-is-lowest, short-page-low-is-near}
 use Rattle.concatenated.proofs.SoftPages.{as-many-columns}
 use Rattle.page.specs.Outcomes.{reportOf, refusalReport, refusedPage, outcomeOf}
 use Rattle.page.specs.declared.PageOutcome.{PageOutcome}
 use Rattle.store_pages.specs.Pages.{decodedPage, PageDecoded}
-use Rattle.store_pages.specs.Reports.{bitAt, Marked, MarksOf}
+use Rattle.store_pages.specs.Reports.{bitAt, Marked, MarksOf, LowestColumn}
 use Rattle.store_pages.proofs.Asked.{every-way}
 
 -- the level that none is
 noLevel : Level
-noLevel = record { symbols = []; changed = []; erased = [] }
+noLevel = record { symbols = []; changed = []; erased = []; lows = [] }
 
 -- no column
 none : (i : ℕ) → i < 4 → getD {A = ℕ} (replicate 4 0) i 0 ≡ 0
@@ -116,3 +118,33 @@ module _ (s : Search) (soft : List ℕ) (limit : ℕ) where
 
       HasMarks : PageOutcome → Type 0
       HasMarks o = o .number ≡ 0 → MarksOf (decodedPage s soft limit) (o .report)
+
+  -- ---- the low point
+
+  pub answers-are-near : (d : PageAnswer) → decodedPage s soft limit ≡ d → natAbs (outcomeOf d .report .low) ≤ 1800
+  unfolding outcomeOf
+  answers-are-near (refused l) e = omega arith
+  answers-are-near (answered ls n) e = short-page-low-is-near s limit (softColumns shortPage soft) (as-many-columns shortPage soft) ls n e
+
+  answers-have-the-lowest : (d : PageAnswer) → decodedPage s soft limit ≡ d → (outcomeOf d .number ≡ 0 → LowestColumn d (outcomeOf d .report)) × ((outcomeOf d .number ≡ 0 → ⊥) → outcomeOf d .report .low ≡ pos 0)
+  unfolding outcomeOf
+  answers-have-the-lowest (refused l) e = (λ z. absurd (omega (arith, z)), λ some. refl)
+  answers-have-the-lowest (answered ls n) e =
+      let page = softColumns shortPage soft in
+      let wide = as-many-columns shortPage soft in (
+        λ z. record { levels = ls; is = refl; some-unerased = short-levels-have-an-unerased-column s limit page wide ls n e; lowest = short-page-low-is-lowest s limit page wide ls n e },
+        λ some. absurd (some refl),
+      )
+
+  -- either decoder: where it answers, the low point is that of the lowest column; a refusal has 0
+  pub low-is-of-the-lowest-column : (old : List ℕ) (r : PageOutcome) (new : List ℕ) → PageDecoded s soft limit old r new
+      → (r .number ≡ 0 → LowestColumn (decodedPage s soft limit) (r .report)) × ((r .number ≡ 0 → ⊥) → r .report .low ≡ pos 0)
+  low-is-of-the-lowest-column old r new call =
+      subst⁻¹ HasLow (call .answer)
+      (every-way soft limit old HasLow refusedPage (outcomeOf D) (λ n p some few near. (λ z. absurd (omega (arith, some, z)), λ k. refl)) (λ most. answers-have-the-lowest D refl))
+    where
+      D : PageAnswer
+      D = decodedPage s soft limit
+
+      HasLow : PageOutcome → Type 0
+      HasLow o = (o .number ≡ 0 → LowestColumn (decodedPage s soft limit) (o .report)) × ((o .number ≡ 0 → ⊥) → o .report .low ≡ pos 0)

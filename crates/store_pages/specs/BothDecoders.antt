@@ -3,7 +3,7 @@ use mathlib.Core.Path.{_≡_}
 use Prim.Native.Nat.{ℕ, _+_}
 use Rattle.page.specs.declared.PageOutcome.{PageOutcome}
 
--- the same number and place; the same totals and marks of changed and erased columns; and, for an answered page, the step sum of the first is larger by exactly `dead`
+-- the same number and place; the same totals and marks of changed and erased columns; the same low point; and, for an answered page, the step sum of the first is larger by exactly `dead`
 pub record SameButSteps (dead : ℕ) (supercode whole : PageOutcome) : Type 0 where
   pub number : supercode .number ≡ whole .number
   pub place : supercode .place ≡ whole .place
@@ -11,4 +11,5 @@ pub record SameButSteps (dead : ℕ) (supercode whole : PageOutcome) : Type 0 wh
   pub erased : supercode .report .erased ≡ whole .report .erased
   pub changed-marks : supercode .report .«changed_marks» ≡ whole .report .«changed_marks»
   pub erased-marks : supercode .report .«erased_marks» ≡ whole .report .«erased_marks»
+  pub low : supercode .report .low ≡ whole .report .low
   pub steps : whole .number ≡ 0 → supercode .report .steps ≡ whole .report .steps + dead

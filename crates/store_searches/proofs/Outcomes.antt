@@ -1,26 +1,28 @@
 -- A search's outcome as its answer. Assumes nothing.
 use mathlib.Core.List.{List}
-use mathlib.Core.Path.{_≡_, refl, ap}
+use mathlib.Core.Path.{_≡_, refl, ap, _∙_}
 use Prim.Native.Nat.{ℕ, _≤_, _<_}
 use native.Mathlib.Omega.{arith}
+use lib.IntN.{ℤ}
 use lib.ListN.{getD}
 use Rattle.paths.specs.Search.{SearchResult, answer, spent}
+use Rattle.trellis.specs.Trellis.{WordFound}
 use Rattle.search.specs.Outcomes.{codeOutcome}
 use Rattle.search.specs.declared.SearchOutcome.the-variants.{Found as CodeFound, Spent as CodeSpent}
 use Rattle.questions.specs.Questions.{firstAbove}
-use Rattle.store_searches.specs.Searches.{number, place, word, count, Answered, outcomeAnswer}
+use Rattle.store_searches.specs.Searches.{number, place, word, count, low, Answered, outcomeAnswer}
 use Rattle.store_searches.specs.declared.SearchAnswer.{SearchAnswer}
 use Rattle.store_searches.specs.declared.SearchAnswer.the-variants.{Found, Refused}
 use Rattle.questions.proofs.FirstAbove.{below-first}
 
-pub found-answer : (o : SearchResult ℕ) (w c : ℕ) → CodeFound w c ≡ codeOutcome o → Found w c ≡ outcomeAnswer o
+pub found-answer : (o : SearchResult WordFound) (w c : ℕ) (z y : ℤ) → CodeFound w c z ≡ codeOutcome o → y ≡ z → Found w c y ≡ outcomeAnswer o
 unfolding codeOutcome outcomeAnswer
-found-answer (answer v d) w c e = cc
-found-answer (spent d) w c e = let z : _≡_ {A = ℕ} 0 1 = cc in absurd (omega arith)
+found-answer (answer v d) w c z y e same = ap (Found w c) same ∙ cc
+found-answer (spent d) w c z y e same = let never : _≡_ {A = ℕ} 0 1 = cc in absurd (omega arith)
 
-pub spent-answer : (o : SearchResult ℕ) → CodeSpent ≡ codeOutcome o → Refused 9 0 ≡ outcomeAnswer o
+pub spent-answer : (o : SearchResult WordFound) → CodeSpent ≡ codeOutcome o → Refused 9 0 ≡ outcomeAnswer o
 unfolding codeOutcome outcomeAnswer
-spent-answer (answer v d) e = let z : _≡_ {A = ℕ} 0 1 = cc in absurd (omega arith)
+spent-answer (answer v d) e = let never : _≡_ {A = ℕ} 0 1 = cc in absurd (omega arith)
 spent-answer (spent d) e = refl
 
 -- what question 5 leaves for the search to ask
@@ -29,4 +31,4 @@ asked-range soft good k l = below-first soft 7 k (omega arith)
 
 -- at a call's return
 pub answered : {due r : SearchAnswer} → r ≡ due → Answered due r
-answered e = record { answer = e; number = ap number e; place = ap place e; word = ap word e; count = ap count e }
+answered e = record { answer = e; number = ap number e; place = ap place e; word = ap word e; count = ap count e; low = ap low e }

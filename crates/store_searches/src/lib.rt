@@ -9,9 +9,9 @@ ghost use Rattle.search.specs.Outcomes.{TablesFor, Searchable30, searchOf};
 ghost use Rattle.store_searches.specs.Searches.{Answered, searchAnswer, outcomeAnswer};
 use search::SearchOutcome;
 
-// What a column search answers: the word and the count. `number`, `place`, `word` and `count` of specs/Searches.antt are 01's words for its cases.
+// What a column search answers: the word, the count and the low point. `number`, `place`, `word`, `count` and `low` of specs/Searches.antt are 01's and 02's words for its cases.
 pub enum SearchAnswer {
-    Found(u64, u64),
+    Found(u64, u64, i16),
     Refused(u64, u64),
 }
 
@@ -42,7 +42,7 @@ fn search_by_tables(
         limit,
     );
     match found {
-        SearchOutcome::Found { word, count } => SearchAnswer::Found(word, count),
+        SearchOutcome::Found { word, count, low } => SearchAnswer::Found(word, count, low),
         SearchOutcome::Spent => SearchAnswer::Refused(9, 0),
     }
 }
@@ -74,14 +74,14 @@ fn search_either(level: u64, soft: &[u8], limit: u64, in_supercodes: bool) -> Se
     search_by_tables(soft, &left, &right, &values, limit)
 }
 
-// The whole search of a column: the word and the count. Refused by 1, 3, 4, 5 and 9.
+// The whole search of a column: the word, the count and the low point. Refused by 1, 3, 4, 5 and 9.
 pub fn search_whole(level: u64, soft: &[u8], limit: u64) -> SearchAnswer
     ensures { λ r. ⌜ Answered (searchAnswer whole level (now (soft .entry)) limit) r ⌝ }
 {
     search_either(level, soft, limit, false)
 }
 
-// The supercode search of a column: the word and the count. Refused by 1, 3, 4, 5 and 9.
+// The supercode search of a column: the word, the count and the low point. Refused by 1, 3, 4, 5 and 9.
 pub fn search_supercode(level: u64, soft: &[u8], limit: u64) -> SearchAnswer
     ensures { λ r. ⌜ Answered (searchAnswer supercode level (now (soft .entry)) limit) r ⌝ }
 {

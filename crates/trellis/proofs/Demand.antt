@@ -24,8 +24,8 @@ use Rattle.paths.proofs.Run.{answer-is-not-spent}
 use Rattle.paths.proofs.Dead.{numbers-differ-by-the-dead-ahead}
 use Rattle.paths.proofs.Steps
 use Rattle.trellis.specs.Values.{Values}
-use Rattle.trellis.specs.Order.{number, before}
-use Rattle.trellis.specs.Trellis.{searched}
+use Rattle.trellis.specs.Order.{number, sum, before}
+use Rattle.trellis.specs.Trellis.{WordFound, foundWord, searched}
 use Rattle.trellis.specs.Demand.{Search, whole, supercode, trellis, wholeTrellis, supercodeTrellis, ExistsFor, Codeword, AheadOfAll}
 use Rattle.trellis.proofs.Existence.{whole-exists-exactly, supercode-exists-exactly}
 use Rattle.trellis.proofs.Sound.{whole-sound, supercode-sound, whole-within-supercode, full-is-codeword-in-whole, full-is-codeword-in-supercode}
@@ -103,23 +103,23 @@ module _ (S : Shape) (i : ℕ) (given : Searchable S i) (vs : Values) (soft : Li
   -- ---- (3) the outcome of a search
 
   module _ (s : Search) (w : Path) (best : AheadOfAll S vs soft i w) (limit : ℕ) where
-    pub answers-within-the-limit : rank (trellis s S vs soft i) w ≤ limit → searched (trellis s S vs soft i) limit ≡ answer (number w) (rank (trellis s S vs soft i) w)
+    pub answers-within-the-limit : rank (trellis s S vs soft i) w ≤ limit → searched (trellis s S vs soft i) limit ≡ answer (foundWord (sum vs soft) w) (rank (trellis s S vs soft i) w)
     unfolding with-key
     answers-within-the-limit l =
-        ap (with-key number) (winner-within-the-limit-is-the-answer (trellis s S vs soft i) (trellis-sound s) w (winner-is-ahead-of-all s w .1 best) limit l)
+        ap (with-key (foundWord (sum vs soft))) (winner-within-the-limit-is-the-answer (trellis s S vs soft i) (trellis-sound s) w (winner-is-ahead-of-all s w .1 best) limit l)
 
     pub is-spent-above-the-limit : limit < rank (trellis s S vs soft i) w → searched (trellis s S vs soft i) limit ≡ spent limit
     unfolding with-key
     is-spent-above-the-limit l =
-        ap (with-key number) (winner-beyond-the-limit-spends-it (trellis s S vs soft i) (trellis-sound s) w (winner-is-ahead-of-all s w .1 best) limit l)
+        ap (with-key (foundWord (sum vs soft))) (winner-beyond-the-limit-spends-it (trellis s S vs soft i) (trellis-sound s) w (winner-is-ahead-of-all s w .1 best) limit l)
 
-    -- an answer is that word, and its count is that number
-    pub answer-is-ahead-of-all : (x c : ℕ) → searched (trellis s S vs soft i) limit ≡ answer x c
-        → (x ≡ number w) × (c ≡ rank (trellis s S vs soft i) w) × (rank (trellis s S vs soft i) w ≤ limit)
+    -- an answer is that word with its low point, and its count is that number
+    pub answer-is-ahead-of-all : (x : WordFound) (c : ℕ) → searched (trellis s S vs soft i) limit ≡ answer x c
+        → (x ≡ foundWord (sum vs soft) w) × (c ≡ rank (trellis s S vs soft i) w) × (rank (trellis s S vs soft i) w ≤ limit)
     answer-is-ahead-of-all x c e = go (decLe (rank (trellis s S vs soft i) w) limit)
       where
-        go : Dec (rank (trellis s S vs soft i) w ≤ limit) → (x ≡ number w) × (c ≡ rank (trellis s S vs soft i) w) × (rank (trellis s S vs soft i) w ≤ limit)
-        go (yes l) = let f : answer x c ≡ answer (number w) (rank (trellis s S vs soft i) w) = sym e ∙ answers-within-the-limit l in (cc f, cc f, l)
+        go : Dec (rank (trellis s S vs soft i) w ≤ limit) → (x ≡ foundWord (sum vs soft) w) × (c ≡ rank (trellis s S vs soft i) w) × (rank (trellis s S vs soft i) w ≤ limit)
+        go (yes l) = let f : answer x c ≡ answer (foundWord (sum vs soft) w) (rank (trellis s S vs soft i) w) = sym e ∙ answers-within-the-limit l in (cc f, cc f, l)
         go (no l) = answer-is-not-spent x c limit (sym e ∙ is-spent-above-the-limit (omega arith))
 
     -- a spent search has taken limit-many paths
@@ -127,13 +127,13 @@ module _ (S : Shape) (i : ℕ) (given : Searchable S i) (vs : Values) (soft : Li
     spent-is-above-the-limit c e = go (decLe (rank (trellis s S vs soft i) w) limit)
       where
         go : Dec (rank (trellis s S vs soft i) w ≤ limit) → (c ≡ limit) × (limit < rank (trellis s S vs soft i) w)
-        go (yes l) = answer-is-not-spent (number w) (rank (trellis s S vs soft i) w) c (sym (answers-within-the-limit l) ∙ e)
+        go (yes l) = answer-is-not-spent (foundWord (sum vs soft) w) (rank (trellis s S vs soft i) w) c (sym (answers-within-the-limit l) ∙ e)
         go (no l) =
             let above : limit < rank (trellis s S vs soft i) w = omega arith in
             let f : spent c ≡ spent limit = sym e ∙ is-spent-above-the-limit above in (cc f, above)
 
-    pub answers-exactly-within-the-limit : ((x : ℕ) × (c : ℕ) × (searched (trellis s S vs soft i) limit ≡ answer x c)) ↔ (rank (trellis s S vs soft i) w ≤ limit)
-    answers-exactly-within-the-limit = (λ h. answer-is-ahead-of-all (h .0) (h .1) (h .2) .2, λ l. (number w, rank (trellis s S vs soft i) w, answers-within-the-limit l))
+    pub answers-exactly-within-the-limit : ((x : WordFound) × (c : ℕ) × (searched (trellis s S vs soft i) limit ≡ answer x c)) ↔ (rank (trellis s S vs soft i) w ≤ limit)
+    answers-exactly-within-the-limit = (λ h. answer-is-ahead-of-all (h .0) (h .1) (h .2) .2, λ l. (foundWord (sum vs soft) w, rank (trellis s S vs soft i) w, answers-within-the-limit l))
 
     -- demand 3: "the search is spent exactly when that number would be above its limit"
     pub is-spent-exactly-above-the-limit : (searched (trellis s S vs soft i) limit ≡ spent limit) ↔ (limit < rank (trellis s S vs soft i) w)
@@ -176,14 +176,14 @@ module _ (S : Shape) (i : ℕ) (given : Searchable S i) (vs : Values) (soft : Li
       numbers-differ-by-the-dead-ahead (wholeTrellis S vs soft i) (supercodeTrellis S vs soft i) (trellis-sound whole) (trellis-sound supercode)
       (whole-within-supercode S (given .some-bits) vs soft i (given .sound) (given .level) (given .split)) w (full-is-codeword supercode w .1 c)
 
-  -- where the supercode search answers, the whole search answers with the same word and a count smaller by the dead paths ahead of it
-  pub supercode-answer-is-whole-answer : (w : Path) → AheadOfAll S vs soft i w → (limit x c : ℕ) → searched (supercodeTrellis S vs soft i) limit ≡ answer x c
+  -- where the supercode search answers, the whole search answers with the same word and low point and a count smaller by the dead paths ahead of it
+  pub supercode-answer-is-whole-answer : (w : Path) → AheadOfAll S vs soft i w → (limit : ℕ) (x : WordFound) (c : ℕ) → searched (supercodeTrellis S vs soft i) limit ≡ answer x c
       → (d : ℕ) × (searched (wholeTrellis S vs soft i) limit ≡ answer x d) × (c ≡ d + dead-ahead (wholeTrellis S vs soft i) (supercodeTrellis S vs soft i) w)
   supercode-answer-is-whole-answer w best limit x c e =
       let r = answer-is-ahead-of-all supercode w best limit x c e in
       let differ = ranks-differ-by-the-dead-ahead w (best .codeword) in (
         rank (wholeTrellis S vs soft i) w,
-        answers-within-the-limit whole w best limit (omega (arith, differ, r .2)) ∙ ap (λ (y : ℕ). answer y (rank (wholeTrellis S vs soft i) w)) (sym (r .0)),
+        answers-within-the-limit whole w best limit (omega (arith, differ, r .2)) ∙ ap (λ (y : WordFound). answer y (rank (wholeTrellis S vs soft i) w)) (sym (r .0)),
         r .1 ∙ differ,
       )
 
@@ -211,7 +211,7 @@ module _ (S : Shape) (i : ℕ) (given : Searchable S i) (vs : Values) (soft : Li
 
         go : (w : Path) → AheadOfAll S vs soft i w → Dec (rank (wholeTrellis S vs soft i) w ≤ limit) → searched (supercodeTrellis S vs soft i) limit ≡ searched (wholeTrellis S vs soft i) limit
         go w best (yes l) =
-            answers-within-the-limit supercode w best limit (omega (arith, same w best)) ∙ ap (answer (number w)) (same w best) ∙ sym (answers-within-the-limit whole w best limit l)
+            answers-within-the-limit supercode w best limit (omega (arith, same w best)) ∙ ap (answer (foundWord (sum vs soft) w)) (same w best) ∙ sym (answers-within-the-limit whole w best limit l)
         go w best (no l) = is-spent-above-the-limit supercode w best limit (omega (arith, same w best)) ∙ sym (is-spent-above-the-limit whole w best limit (omega arith))
 
   -- ---- (5) the stack

@@ -2,13 +2,16 @@
 use mathlib.Core.Bool.{Bool, true, false, _&&_}
 use mathlib.Core.List.{List, [], _∷_}
 use mathlib.Core.Logic.{_↔_, _⊎_, inl, inr, ⊎-elim}
-use mathlib.Core.Path.{_≡_, refl, sym, ap, ap₂, _∙_, subst⁻¹}
-use Prim.Native.Nat.{ℕ, suc, _+_, _-_, _*_, _%_, _<_}
+use mathlib.Core.Path.{_≡_, refl, sym, ap, ap₂, _∙_, subst, subst⁻¹}
+use Prim.Native.Nat.{ℕ, suc, _+_, _-_, _*_, _%_, _≤_, _<_}
+use native.Mathlib.Nat.{le-trans, mul-le-mul-left}
 use native.Mathlib.Omega.{arith}
 use lib.Bits.{and-zero-r}
 use lib.Count.{ones}
 use lib.Dec.{eqb}
+use lib.IntN.{ℤ}
 use lib.ListN.{length, getD}
+use lib.Signed.{_≤ℤ_}
 use borrow.Author.Tests.{eqb-true, eq-eqb}
 use Rattle.poly.specs.Polynomial.{Degree}
 use Rattle.column.specs.Shape.{Code, Shape, Sound as ShapeSound, levels, levelCode}
@@ -20,16 +23,17 @@ use Rattle.column.proofs.Supercodes.{Split}
 use Rattle.paths.specs.Paths.{Path}
 use Rattle.paths.specs.Tree.{Tree, Sound, is-full, Exists as InTree}
 use Rattle.paths.specs.Search.{SearchResult, answer, spent, limited-search}
-use Rattle.paths.specs.Keys.{KeysOf, with-key}
+use Rattle.paths.specs.Keys.{WithLow, KeysOf, key-with-low, with-key}
 use Rattle.paths.proofs.Booleans.{and-both}
 use Rattle.paths.proofs.Keys.{search-on-keys-is-search-on-paths}
 use Rattle.trellis.specs.Values.{Values}
 use Rattle.trellis.specs.Order.{bit, number, sum, before}
-use Rattle.trellis.specs.Keys.{Key, keyOf, keyExtension, keyPasses, MasksFor, keyNodes, keySearch}
-use Rattle.trellis.specs.Trellis.{existsIn, searched}
+use Rattle.trellis.specs.Keys.{Key, keyOf, keyExtension, keyPasses, MasksFor, keyNodes, noneTaken, keySearch}
+use Rattle.trellis.specs.Trellis.{existsIn, WordFound, foundWord, searched}
 use Rattle.trellis.specs.Demand.{Search, whole, supercode, trellis, wholeTrellis, supercodeTrellis}
 use Rattle.trellis.proofs.Order.{before-keys, bit-below}
 use Rattle.trellis.proofs.Existence.{exists-exactly}
+use Rattle.trellis.proofs.Sums.{Near, near-is-not-above, sum-near}
 use Rattle.trellis.proofs.Demand.{Searchable, trellis-sound}
 
 bool-ext : (a b : Bool) → (a ≡ true → b ≡ true) → (b ≡ true → a ≡ true) → a ≡ b
@@ -84,12 +88,13 @@ passes-nothing n masks none b p l = ap (λ (m : ℕ). eqb (parity m (number (b �
 
 module _ (vs : Values) (soft left right : List ℕ) where
   -- whatever the tree, its order and length given
-  keys-of : (t : Tree) → t .before ≡ before vs soft
+  keys-of : (t : Tree) → t .sum ≡ sum vs soft → t .before ≡ before vs soft
       → ((b : Bool) (p : Path) → (p ≡ []) ⊎ (t .exists p ≡ true) → length p < t .size → (passes left (b ∷ p) && passes right (b ∷ p)) ≡ t .exists (b ∷ p))
       → KeysOf t (keyNodes (t .size) vs soft left right) (keyOf vs soft)
   unfolding keyOf keyExtension keyPasses passes is-full sum number
-  keys-of t same-order exists = record {
+  keys-of t same-sums same-order exists = record {
     same-extension = λ b p. refl;
+    same-sum = λ p. ap (λ (sums : Path → ℤ). sums p) (sym same-sums);
     same-order = λ p q. sym (before-keys vs soft p q) ∙ ap (λ (order : Path → Path → Bool). order p q) (sym same-order);
     same-full = λ p. refl;
     same-exists = λ b p parent l. exists b p (⊎-elim (λ e. inl e) (λ (e : InTree t p). inr (e .in-tree)) parent) l;
@@ -100,7 +105,7 @@ module _ (vs : Values) (soft left right : List ℕ) where
     module _ (sound : ShapeSound S) (level : i < levels S) (left-of : MasksOf (S .bits) (levelCode S i) left) (none : (k : ℕ) → k < S .bits → getD right k 0 ≡ 0) where
       keys-of-whole : KeysOf (wholeTrellis S vs soft i) (keyNodes (S .bits) vs soft left right) (keyOf vs soft)
       keys-of-whole =
-          keys-of (wholeTrellis S vs soft i) refl
+          keys-of (wholeTrellis S vs soft i) refl refl
           (λ b p parent l.
           ap₂ _&&_ (passes-is-exists (S .bits) (levelCode S i) (sound .degrees i level) left left-of b p parent l) (passes-nothing (S .bits) right none b p l)
           ∙ and-true (existsIn (S .bits) (levelCode S i) (b ∷ p)))
@@ -109,7 +114,7 @@ module _ (vs : Values) (soft left right : List ℕ) where
     module _ (split : Split S i) (left-of : MasksOf (S .bits) (S .supercodes i .left) left) (right-of : MasksOf (S .bits) (S .supercodes i .right) right) where
       keys-of-supercode : KeysOf (supercodeTrellis S vs soft i) (keyNodes (S .bits) vs soft left right) (keyOf vs soft)
       keys-of-supercode =
-          keys-of (supercodeTrellis S vs soft i) refl
+          keys-of (supercodeTrellis S vs soft i) refl refl
           (λ b p parent l.
           ap₂ _&&_
           (passes-is-exists (S .bits) (S .supercodes i .left) (split .left-degree) left left-of b p (⊎-elim (λ e. inl e) (λ e. inr (both p e .0)) parent) l)
@@ -120,22 +125,28 @@ module _ (vs : Values) (soft left right : List ℕ) where
 
 -- ---- the search
 
--- the outcome with the word's bits
-abbrev pub by-bits : SearchResult Key → SearchResult ℕ
-by-bits (answer k c) = answer (k .bits) c
+-- the outcome with the word's bits and its low point
+abbrev pub by-bits : SearchResult (WithLow Key) → SearchResult WordFound
+by-bits (answer k c) = answer (record { column = k .key .bits; low = k .low }) c
 by-bits (spent c) = spent c
 
-module _ (vs : Values) (soft left right : List ℕ) (t : Tree) (sound : Sound t) (keys : KeysOf t (keyNodes (t .size) vs soft left right) (keyOf vs soft)) where
-  key-search-has-the-keys : (limit : ℕ) → keySearch (t .size) vs soft left right limit ≡ with-key (keyOf vs soft) (limited-search t limit)
+-- no sum of a path of at most n bits is above what the search begins with
+abbrev pub NotAbove : ℕ → Values → List ℕ → Type 0
+NotAbove n vs soft = (p : Path) → length p ≤ n → sum vs soft p ≤ℤ noneTaken
+
+module _ (vs : Values) (soft left right : List ℕ) (t : Tree) (sound : Sound t) (keys : KeysOf t (keyNodes (t .size) vs soft left right) (keyOf vs soft)) (high : NotAbove (t .size) vs soft) where
+  key-search-has-the-keys : (limit : ℕ) → keySearch (t .size) vs soft left right limit ≡ with-key (key-with-low t (keyOf vs soft)) (limited-search t limit)
   unfolding keySearch limited-search keyOf sum number
-  key-search-has-the-keys limit = search-on-keys-is-search-on-paths t (keyNodes (t .size) vs soft left right) (keyOf vs soft) keys sound (λ k. true) limit
+  key-search-has-the-keys limit =
+      search-on-keys-is-search-on-paths t (keyNodes (t .size) vs soft left right) (keyOf vs soft) keys sound noneTaken
+      (λ w x. subst (λ (z : ℤ). z ≤ℤ noneTaken) (keys .same-sum w) (high w (sound .short w (x .in-tree)))) (λ k. true) limit
 
   -- the search on keys is the search
   key-search-is-search : (limit : ℕ) → by-bits (keySearch (t .size) vs soft left right limit) ≡ searched t limit
   unfolding with-key keyOf
   key-search-is-search limit = ap by-bits (key-search-has-the-keys limit) ∙ bits-of (limited-search t limit)
     where
-      bits-of : (o : SearchResult Path) → by-bits (with-key (keyOf vs soft) o) ≡ with-key number o
+      bits-of : (o : SearchResult Path) → by-bits (with-key (key-with-low t (keyOf vs soft)) o) ≡ with-key (foundWord (t .sum)) o
       bits-of (answer w c) = refl
       bits-of (spent c) = refl
 
@@ -145,5 +156,9 @@ module _ (S : Shape) (i : ℕ) (given : Searchable S i) (vs : Values) (soft left
   keys-of-trellis whole masks = keys-of-whole vs soft left right S i (given .sound) (given .level) (masks .0) (masks .1)
   keys-of-trellis supercode masks = keys-of-supercode vs soft left right S i (given .split) (masks .0) (masks .1)
 
-  pub key-search-is-the-search : (s : Search) → MasksFor s S i left right → (limit : ℕ) → by-bits (keySearch (S .bits) vs soft left right limit) ≡ searched (trellis s S vs soft i) limit
+  pub key-search-is-the-search : (s : Search) → MasksFor s S i left right → NotAbove (S .bits) vs soft → (limit : ℕ) → by-bits (keySearch (S .bits) vs soft left right limit) ≡ searched (trellis s S vs soft i) limit
   key-search-is-the-search s masks = key-search-is-search vs soft left right (trellis s S vs soft i) (trellis-sound S i given vs soft s) (keys-of-trellis s masks)
+
+-- as with values within k of zero, and few bits
+pub few-bits-are-not-above : (n k : ℕ) (vs : Values) (soft : List ℕ) → Near k vs → k * n ≤ 32767 → NotAbove n vs soft
+few-bits-are-not-above n k vs soft near few p l = near-is-not-above (sum vs soft p) 32767 (le-trans (sum-near k vs near soft p) (le-trans (mul-le-mul-left k l) few))

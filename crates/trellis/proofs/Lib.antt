@@ -1,5 +1,6 @@
 pub mod Strict
 pub mod Values
+pub mod Sums
 pub mod Order
 pub mod Existence
 pub mod Sound

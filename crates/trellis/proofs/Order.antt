@@ -1,5 +1,5 @@
 -- 01: "No two paths tie": the order of paths is strict and total, and the keys tell it. Assumes nothing.
-use mathlib.Core.Bool.{Bool, true, false, cond, not, _&&_}
+use mathlib.Core.Bool.{Bool, true, false, cond, not, _&&_, false≢true}
 use mathlib.Core.List.{List, [], _∷_}
 use mathlib.Core.Logic.{inl, inr, ⊎-elim}
 use mathlib.Core.Path.{_≡_, refl, sym, ap, ap₂, _∙_}
@@ -8,12 +8,13 @@ use native.Mathlib.Nat.{zero-lt-suc, pow-suc}
 use native.Mathlib.Omega.{arith}
 use lib.Dec.{ltb}
 use lib.ListN.{length}
-use lib.Signed.{ltZ}
+use lib.Signed.{ltZ, _≤ℤ_}
 use borrow.Author.Tests.{ltb-true, ltb-false, lt-ltb, le-ltb}
 use Rattle.paths.specs.Paths.{Path, same}
 use Rattle.paths.specs.Order.{Order}
 use Rattle.paths.proofs.Prefixes.{same-equal, equal-same}
 use Rattle.paths.proofs.Booleans.{not-both}
+use Rattle.paths.proofs.Integers.{not-below, below-is-not-above}
 use Rattle.trellis.specs.Values.{Values}
 use Rattle.trellis.specs.Order.{bit, number, sum, zeroFirst, firstBy, before}
 use Rattle.trellis.specs.Keys.{Key, keyOf, keyBefore}
@@ -111,6 +112,17 @@ key-order =
     strict-first-by (λ p q. (p .len ≡ q .len) × (p .bits ≡ q .bits)) (λ p. p .sum) (λ a b. ltZ b a) (first-by (λ p. p .len) (λ a b. ltb b a) (λ p q. ltb (p .bits) (q .bits)))
     (strict-flip strict-int)
     (strict-first-by (λ p q. p .bits ≡ q .bits) (λ p. p .len) (λ a b. ltb b a) (λ p q. ltb (p .bits) (q .bits)) (strict-flip strict-nat) (strict-on (λ p. p .bits) strict-nat))
+
+-- the larger sum first
+pub sums-fall : (vs : Values) (soft : List ℕ) (p q : Path) → before vs soft p q ≡ true → sum vs soft q ≤ℤ sum vs soft p
+unfolding before
+sums-fall vs soft p q e = go (ltZ (sum vs soft q) (sum vs soft p)) refl (ltZ (sum vs soft p) (sum vs soft q)) refl e
+  where
+    go : (s : Bool) → ltZ (sum vs soft q) (sum vs soft p) ≡ s → (t : Bool) → ltZ (sum vs soft p) (sum vs soft q) ≡ t
+        → firstBy s t (firstBy (ltb (length q) (length p)) (ltb (length p) (length q)) (zeroFirst p q)) ≡ true → sum vs soft q ≤ℤ sum vs soft p
+    go true a t b k = below-is-not-above (sum vs soft q) (sum vs soft p) a
+    go false a true b k = absurd (false≢true k)
+    go false a false b k = not-below (sum vs soft p) (sum vs soft q) b
 
 -- 01: "No two paths tie."
 pub order : (vs : Values) (soft : List ℕ) → Order (before vs soft)

@@ -11,8 +11,8 @@ use Rattle.paths.specs.Tree.{number as rank}
 use Rattle.paths.specs.Search.{answer, spent}
 use Rattle.paths.specs.Dead.{dead-ahead}
 use Rattle.trellis.specs.Values.{levelValues}
-use Rattle.trellis.specs.Order.{number}
-use Rattle.trellis.specs.Trellis.{searched}
+use Rattle.trellis.specs.Order.{sum}
+use Rattle.trellis.specs.Trellis.{WordFound, foundWord, searched}
 use Rattle.trellis.proofs.Demand as Demand
 use Rattle.trellis.specs.Demand.{Search, trellis, wholeTrellis, supercodeTrellis, AheadOfAll}
 use Rattle.trellis.proofs.Demand.{Searchable}
@@ -25,20 +25,20 @@ module _ (i : ℕ) (h : i < 4) (soft : List ℕ) where
   one-codeword-is-ahead-of-all = Demand.one-codeword-is-ahead-of-all short i (searchable i h) (levelValues i) soft
 
   module _ (s : Search) (w : Path) (best : AheadOfAll short (levelValues i) soft i w) (limit : ℕ) where
-    pub answers-within-the-limit : rank (trellis s short (levelValues i) soft i) w ≤ limit → searched (trellis s short (levelValues i) soft i) limit ≡ answer (number w) (rank (trellis s short (levelValues i) soft i) w)
+    pub answers-within-the-limit : rank (trellis s short (levelValues i) soft i) w ≤ limit → searched (trellis s short (levelValues i) soft i) limit ≡ answer (foundWord (sum (levelValues i) soft) w) (rank (trellis s short (levelValues i) soft i) w)
     answers-within-the-limit = Demand.answers-within-the-limit short i (searchable i h) (levelValues i) soft s w best limit
 
     pub is-spent-above-the-limit : limit < rank (trellis s short (levelValues i) soft i) w → searched (trellis s short (levelValues i) soft i) limit ≡ spent limit
     is-spent-above-the-limit = Demand.is-spent-above-the-limit short i (searchable i h) (levelValues i) soft s w best limit
 
-    pub answer-is-ahead-of-all : (x c : ℕ) → searched (trellis s short (levelValues i) soft i) limit ≡ answer x c
-        → (x ≡ number w) × (c ≡ rank (trellis s short (levelValues i) soft i) w) × (rank (trellis s short (levelValues i) soft i) w ≤ limit)
+    pub answer-is-ahead-of-all : (x : WordFound) (c : ℕ) → searched (trellis s short (levelValues i) soft i) limit ≡ answer x c
+        → (x ≡ foundWord (sum (levelValues i) soft) w) × (c ≡ rank (trellis s short (levelValues i) soft i) w) × (rank (trellis s short (levelValues i) soft i) w ≤ limit)
     answer-is-ahead-of-all = Demand.answer-is-ahead-of-all short i (searchable i h) (levelValues i) soft s w best limit
 
     pub is-spent-exactly-above-the-limit : (searched (trellis s short (levelValues i) soft i) limit ≡ spent limit) ↔ (limit < rank (trellis s short (levelValues i) soft i) w)
     is-spent-exactly-above-the-limit = Demand.is-spent-exactly-above-the-limit short i (searchable i h) (levelValues i) soft s w best limit
 
-  pub supercode-answer-is-whole-answer : (w : Path) → AheadOfAll short (levelValues i) soft i w → (limit x c : ℕ) → searched (supercodeTrellis short (levelValues i) soft i) limit ≡ answer x c
+  pub supercode-answer-is-whole-answer : (w : Path) → AheadOfAll short (levelValues i) soft i w → (limit : ℕ) (x : WordFound) (c : ℕ) → searched (supercodeTrellis short (levelValues i) soft i) limit ≡ answer x c
       → (d : ℕ) × (searched (wholeTrellis short (levelValues i) soft i) limit ≡ answer x d) × (c ≡ d + dead-ahead (wholeTrellis short (levelValues i) soft i) (supercodeTrellis short (levelValues i) soft i) w)
   supercode-answer-is-whole-answer = Demand.supercode-answer-is-whole-answer short i (searchable i h) (levelValues i) soft
 

@@ -6,6 +6,7 @@ use mathlib.Core.Path.{_≡_, refl, ap, subst, subst⁻¹}
 use Prim.Native.Nat.{ℕ, zero, suc, _/_, _≤_, _<_}
 use native.Mathlib.Omega.{arith}
 use lib.ListN.{length}
+use lib.Signed.{_≤ℤ_}
 use Rattle.column.specs.Shape.{Shape, Sound as ShapeSound, Word, levels, levelCode}
 use Rattle.column.specs.Trellis.{ExistsWhole, ExistsSupercode}
 use Rattle.column.proofs.Begins.{full-path-is-word}
@@ -17,7 +18,7 @@ use Rattle.paths.specs.Dead.{Within}
 use Rattle.trellis.specs.Values.{Values}
 use Rattle.trellis.specs.Order.{number}
 use Rattle.trellis.specs.Demand.{wholeTrellis, supercodeTrellis}
-use Rattle.trellis.proofs.Order.{order, number-half}
+use Rattle.trellis.proofs.Order.{order, sums-fall, number-half}
 use Rattle.trellis.proofs.Existence.{whole-exists-exactly, supercode-exists-exactly}
 
 -- ---- the path of zeros
@@ -51,9 +52,10 @@ module _ (t : Tree) (P : ℕ → ℕ → Type 0) (exactly : (p : Path) → (t .e
     },
   )
 
-  pub tree-sound : Order (t .before) → ((k q : ℕ) → k < t .size → P (suc k) q → P k (q / 2)) → ((k : ℕ) → P k 0) → Sound t
-  tree-sound order down none = record {
+  pub tree-sound : Order (t .before) → ((p q : Path) → t .before p q ≡ true → t .sum q ≤ℤ t .sum p) → ((k q : ℕ) → k < t .size → P (suc k) q → P k (q / 2)) → ((k : ℕ) → P k 0) → Sound t
+  tree-sound order fall down none = record {
     order = order;
+    sums-fall = fall;
     parents = λ b c p e.
         let h = exactly (b ∷ c ∷ p) .0 e in
         exactly (c ∷ p) .1 (omega (arith, h .0), subst (P (suc (length p))) (number-half b (c ∷ p)) (down (suc (length p)) (number (b ∷ c ∷ p)) (h .0) (h .1)));
@@ -67,7 +69,7 @@ module _ (S : Shape) (some-bits : 0 < S .bits) (vs : Values) (soft : List ℕ) (
   module _ (sound : ShapeSound S) (level : i < levels S) where
     pub whole-sound : Sound (wholeTrellis S vs soft i)
     whole-sound =
-        tree-sound (wholeTrellis S vs soft i) (ExistsWhole S i) (whole-exists-exactly S vs soft i sound level) some-bits (order vs soft) (whole-prefix S i) (whole-zero S i)
+        tree-sound (wholeTrellis S vs soft i) (ExistsWhole S i) (whole-exists-exactly S vs soft i sound level) some-bits (order vs soft) (sums-fall vs soft) (whole-prefix S i) (whole-zero S i)
 
     -- the full paths are the codewords of the level
     pub full-is-codeword-in-whole : (w : Path) → Full (wholeTrellis S vs soft i) w ↔ ((length w ≡ S .bits) × Word (S .bits) (levelCode S i) (number w))
@@ -79,7 +81,7 @@ module _ (S : Shape) (some-bits : 0 < S .bits) (vs : Values) (soft : List ℕ) (
   module _ (split : Split S i) where
     pub supercode-sound : Sound (supercodeTrellis S vs soft i)
     supercode-sound =
-        tree-sound (supercodeTrellis S vs soft i) (ExistsSupercode S i) (supercode-exists-exactly S vs soft i split) some-bits (order vs soft) (supercode-prefix S i)
+        tree-sound (supercodeTrellis S vs soft i) (ExistsSupercode S i) (supercode-exists-exactly S vs soft i split) some-bits (order vs soft) (sums-fall vs soft) (supercode-prefix S i)
         (supercode-zero S i)
 
     pub full-is-codeword-in-supercode : (w : Path) → Full (supercodeTrellis S vs soft i) w ↔ ((length w ≡ S .bits) × Word (S .bits) (levelCode S i) (number w))

@@ -11,7 +11,7 @@ use Rattle.paths.specs.Paths.{Path, prefix}
 use Rattle.paths.specs.Order.{Ahead}
 use Rattle.paths.specs.Tree.{Tree}
 use Rattle.trellis.specs.Values.{Values}
-use Rattle.trellis.specs.Order.{number, before}
+use Rattle.trellis.specs.Order.{number, sum, before}
 use Rattle.trellis.specs.Trellis.{existsIn}
 
 -- the two searches
@@ -26,7 +26,7 @@ existsFor supercode S i = λ p. existsIn (S .bits) (S .supercodes i .left) p && 
 
 -- 01: "A search's trellis paths are the paths that exist for it"
 abbrev pub trellis : Search → Shape → Values → List ℕ → ℕ → Tree
-trellis s S vs soft i = record { size = S .bits; before = before vs soft; exists = existsFor s S i }
+trellis s S vs soft i = record { size = S .bits; sum = sum vs soft; before = before vs soft; exists = existsFor s S i }
 
 abbrev pub wholeTrellis : Shape → Values → List ℕ → ℕ → Tree
 wholeTrellis = trellis whole

@@ -12,7 +12,7 @@ use Rattle.column.specs.Mask.{parity, MasksOf}
 use Rattle.paths.specs.Paths.{Path}
 use Rattle.paths.specs.Stack.{Nodes, extend}
 use Rattle.paths.specs.Search.{SearchResult}
-use Rattle.paths.specs.Keys.{run-keys}
+use Rattle.paths.specs.Keys.{WithLow, run-keys}
 use Rattle.trellis.specs.Values.{Values, branch}
 use Rattle.trellis.specs.Order.{bit, number, sum, firstBy}
 use Rattle.trellis.specs.Demand.{Search, whole, supercode}
@@ -53,12 +53,17 @@ MasksFor supercode S i left right = MasksOf (S .bits) (S .supercodes i .left) le
 abbrev pub keyNodes : ℕ → Values → List ℕ → List ℕ → List ℕ → Nodes Key
 keyNodes n vs soft left right = record {
   extension = keyExtension vs soft;
+  sum = λ k. k .sum;
   before = keyBefore;
   exists = keyPasses left right;
   full = λ k. eqb (k .len) n;
 }
 
+-- the lowest sum before a path is taken: the largest number of 16 bits, which no sum is above
+abbrev pub noneTaken : ℤ
+noneTaken = pos 32767
+
 -- the search on keys
-unfoldable pub keySearch : ℕ → Values → List ℕ → List ℕ → List ℕ → ℕ → SearchResult Key
+unfoldable pub keySearch : ℕ → Values → List ℕ → List ℕ → List ℕ → ℕ → SearchResult (WithLow Key)
 keySearch n vs soft left right limit =
-    run-keys (keyNodes n vs soft left right) (λ k. true) limit 0 (extend (keyNodes n vs soft left right) (key (pos 0) 0 0) [])
+    run-keys (keyNodes n vs soft left right) (λ k. true) limit 0 noneTaken (extend (keyNodes n vs soft left right) (key (pos 0) 0 0) [])

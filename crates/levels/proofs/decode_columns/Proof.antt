@@ -1,19 +1,23 @@
 -- `levels::decode_columns` meets its contract: the arrays hold what the run has given below the level. Assumes nothing.
 use native.Mathlib.Omega.{arith}
+use mir.Syntax.{w16}
+use mir.Val.{toZ}
+use mir.Facts.{toZ-ofZ}
 use Prim.Native.Nat.{_-_}
 use Rattle.stack.specs.Places.{Room}
 use Rattle.concatenated.specs.Readers.{shortReader}
 use Rattle.search.specs.Outcomes.{searchOf}
+use Rattle.concatenated.proofs.Lows.{short-page-low-from}
 use Rattle.levels.proofs.LevelRuns.{not-so, so, Decoding, decoding-none, decoding-more, decoding-refused, decoding-answered}
 use borrow.Author.Needs.{needs}
 use Rattle.levels.proofs.decode_columns.Statement.{statement}
 use Rattle.levels.proofs.decode_columns.Tie as tie
 
 abbrev Inv-loop : tie.InvT-loop
-Inv-loop work₀ limit in-supercodes sums₀ lens₀ bits₀ held₀ changed₀ erased₀ sum₀ level₀ work sums lens bits held changed erased sum level = Decoding (shortReader (searchOf in-supercodes) limit) work₀ work held changed erased sum level × Room sums lens bits
+Inv-loop work₀ limit in-supercodes sums₀ lens₀ bits₀ held₀ changed₀ erased₀ sum₀ low₀ level₀ work sums lens bits held changed erased sum low level = Decoding (shortReader (searchOf in-supercodes) limit) work₀ work held changed erased sum (toZ w16 low) level × Room sums lens bits
 
 abbrev μ-loop : tie.MeasureT-loop
-μ-loop work₀ limit in-supercodes sums₀ lens₀ bits₀ held₀ changed₀ erased₀ sum₀ level₀ work sums lens bits held changed erased sum level = 4 - level
+μ-loop work₀ limit in-supercodes sums₀ lens₀ bits₀ held₀ changed₀ erased₀ sum₀ low₀ level₀ work sums lens bits held changed erased sum low level = 4 - level
 
 loop-holds : tie.Need-loop-holds Inv-loop μ-loop
 loop-holds c = (decoding-none _ _ _ _ _ (c .pre .1) (c .pre .3) (c .pre .4) (c .pre .5), c .pre .2)
@@ -27,7 +31,7 @@ decode-level-requires c κs =
 returns : tie.Need-returns Inv-loop μ-loop
 returns c =
     let turn = c .before .before .before .before .before .before .before in
-    decoding-refused _ _ _ _ _ _ _ _ (turn .loop .inv .0) (c .before .before .before .before .before .before .loop-test .taken) _ _ (c .before .decode-level .ensures .0) (not-so _ (c .if1 .taken)) _ _ _
+    decoding-refused _ _ _ _ _ _ _ _ _ (turn .loop .inv .0) (c .before .before .before .before .before .before .loop-test .taken) _ _ (c .before .decode-level .ensures .0) (not-so _ (c .if1 .taken)) _ _ _
 
 mul-r : tie.Need-mul-r Inv-loop μ-loop
 mul-r c = search needs
@@ -58,12 +62,14 @@ loop-less c = search needs
 
 loop-again : tie.Need-loop-again Inv-loop μ-loop
 loop-again c =
-    let turn = c .before .before .before .before .before .before .before .before .before in
-    let done = c .before .before .before .decode-level .ensures in
-    (decoding-more _ _ _ _ _ _ _ _ (turn .loop .inv .0) (c .before .before .before .before .before .before .before .before .loop-test .taken) _ _ (done .0) (so _ (c .before .before .if1 .left)) (done .1) (done .2) _ (omega arith), done .3)
+    let turn = c .before .before .before .before .before .before .before .before .before .before in
+    let done = c .before .before .before .before .decode-level .ensures in
+    (decoding-more _ _ _ _ _ _ _ _ _ (turn .loop .inv .0) (c .before .before .before .before .before .before .before .before .before .loop-test .taken) _ _ (done .0) (so _ (c .before .before .before .if1 .left)) (done .1) (done .2) _ (omega arith) _ (toZ-ofZ (record { sfits = c .struct-told .given .1 .1 .1 .1 .0 .1 })), done .3)
 
 returns-2 : tie.Need-returns-2 Inv-loop μ-loop
-returns-2 c = decoding-answered _ _ _ _ _ _ _ _ (c .before .loop .inv .0) (c .loop-test .left)
+returns-2 c =
+    let a = c .before .before in
+    decoding-answered _ _ _ _ _ _ _ _ _ (c .before .loop .inv .0) (c .loop-test .left) (short-page-low-from (searchOf (a .args .in-supercodes)) (a .args .limit) _ (a .pre .1 .many))
 
 pub decode-columns-spec : {M : Type 1} → statement M
 decode-columns-spec =

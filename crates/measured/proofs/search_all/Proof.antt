@@ -8,7 +8,7 @@ use Rattle.column.specs.Shape.{short}
 use Rattle.paths.specs.Search.{SearchResult}
 use Rattle.trellis.specs.Values.{levelValues}
 use Rattle.trellis.specs.Demand.{Search, trellis}
-use Rattle.trellis.specs.Trellis.{searched}
+use Rattle.trellis.specs.Trellis.{WordFound, searched}
 use Rattle.search.specs.Outcomes.{TablesFor}
 use Rattle.stack.specs.Places.{Room}
 use Rattle.search.proofs.ShortSearch.{column-searchable}
@@ -79,7 +79,7 @@ loop-again c =
       whole,
       found .search-column .ensures .0,
       λ s i h tables.
-          let search : List ℕ → SearchResult ℕ = λ x. searched (trellis s short (levelValues i) x i) (start .args .limit) in
+          let search : List ℕ → SearchResult WordFound = λ x. searched (trellis s short (levelValues i) x i) (start .args .limit) in
           subst⁻¹ (λ (x : ℕ). Folded search soft (a + 30) (bitXor (at-loop .loop .fold) x)) (c .folded .ensures)
           (one-more-folded search soft a _ _ (inv .1) (inv .3 s i h tables) (found .search-column .ensures .1 s i h tables)),
     )

@@ -2,6 +2,7 @@
 use mathlib.Core.Path.{refl, sym, ap, _∙_}
 use Prim.Native.Nat.{ℕ}
 use mathlib.Core.List.{List}
+use mir.Facts.{toZ-ofZ}
 use Rattle.column.specs.Shape.{short}
 use Rattle.concatenated.specs.Decode.{decoded}
 use Rattle.concatenated.specs.Readers.{shortReader}
@@ -30,7 +31,7 @@ rows-data-requires c κs =
     let start = left .before .before .before .before .before .before .before .before .before .before .before .before in
     let read = shortReader (searchOf (start .args .in-supercodes)) (start .args .limit) in
     let told = c .before .before .before .outcome .given in
-    let answer = is-answered read _ _ _ _ _ (left .decode-columns .ensures) (told .0 .0) (told .1) in
+    let answer = is-answered read _ _ _ _ _ (left .decode-columns .ensures) (told .0 .0) (told .0 .1 .0) (told .1) in
     (answer .good .four, refl, λ i h. answer .good .words i h .0)
 
 bytes-of-requires : tie.Need-bytes-of-requires
@@ -39,7 +40,7 @@ bytes-of-requires c κs =
     let start = left .before .before .before .before .before .before .before .before .before .before .before .before in
     let read = shortReader (searchOf (start .args .in-supercodes)) (start .args .limit) in
     let told = c .before .before .before .before .before .before .outcome .given in
-    let answer = is-answered read _ _ _ _ _ (left .decode-columns .ensures) (told .0 .0) (told .1) in
+    let answer = is-answered read _ _ _ _ _ (left .decode-columns .ensures) (told .0 .0) (told .0 .1 .0) (told .1) in
     let put = c .before .before .rows-data .ensures in
     (rows-data-is-a-word _ _ (answer .good) put, start .pre .3)
 
@@ -49,7 +50,7 @@ totals-requires c κs =
     let start = left .before .before .before .before .before .before .before .before .before .before .before .before in
     let read = shortReader (searchOf (start .args .in-supercodes)) (start .args .limit) in
     let told = c .before .before .before .before .before .before .before .before .before .before .outcome .given in
-    let answer = is-answered read _ _ _ _ _ (left .decode-columns .ensures) (told .0 .0) (told .1) in
+    let answer = is-answered read _ _ _ _ _ (left .decode-columns .ensures) (told .0 .0) (told .0 .1 .0) (told .1) in
     answer .four-changed
 
 totals-requires-2 : tie.Need-totals-requires-2
@@ -58,7 +59,7 @@ totals-requires-2 c κs =
     let start = left .before .before .before .before .before .before .before .before .before .before .before .before in
     let read = shortReader (searchOf (start .args .in-supercodes)) (start .args .limit) in
     let told = c .before .before .before .before .before .before .before .before .before .before .before .before .outcome .given in
-    let answer = is-answered read _ _ _ _ _ (left .decode-columns .ensures) (told .0 .0) (told .1) in
+    let answer = is-answered read _ _ _ _ _ (left .decode-columns .ensures) (told .0 .0) (told .0 .1 .0) (told .1) in
     answer .four-erased
 
 enum-known-outcome-2 : tie.Need-enum-known-outcome-2
@@ -76,11 +77,11 @@ returns c =
     let start = left .before .before .before .before .before .before .before .before .before .before .before .before in
     let read = shortReader (searchOf (start .args .in-supercodes)) (start .args .limit) in
     let told = c .before .before .before .before .before .before .before .before .before .before .before .before .before .outcome .given in
-    let answer = is-answered read _ _ _ _ _ (left .decode-columns .ensures) (told .0 .0) (told .1) in
+    let answer = is-answered read _ _ _ _ _ (left .decode-columns .ensures) (told .0 .0) (told .0 .1 .0) (told .1) in
     let loaded = left .before .before .before .before .before .before .before .before .load .ensures in
     let old = start .args .«data» .now in (
-      answered-outcome _ _ _ _ _ answer _ _ (c .before .before .totals .ensures) (c .totals2 .ensures) ∙ ap (λ (p : List (List ℕ)). outcomeOf (decoded short shortOuter read p)) loaded,
-      answered-data _ _ _ _ _ answer old _ _ (c .before .before .before .before .before .before .before .before .before .rows-data .ensures) (c .before .before .before .before .before .before .bytes-of .ensures) ∙ ap (λ (p : List (List ℕ)). dataAfter old (decoded short shortOuter read p)) loaded,
+      answered-outcome _ _ _ _ _ _ answer _ _ _ (c .before .before .totals .ensures) (c .totals2 .ensures) (toZ-ofZ (record { sfits = c .before .before .before .before .before .before .before .before .before .before .before .before .known-told .given .1 .0 .1 })) ∙ ap (λ (p : List (List ℕ)). outcomeOf (decoded short shortOuter read p)) loaded,
+      answered-data _ _ _ _ _ _ answer old _ _ (c .before .before .before .before .before .before .before .before .before .rows-data .ensures) (c .before .before .before .before .before .before .bytes-of .ensures) ∙ ap (λ (p : List (List ℕ)). dataAfter old (decoded short shortOuter read p)) loaded,
     )
 
 returns-2 : tie.Need-returns-2

@@ -1,5 +1,8 @@
 -- `readings::read_row` meets its contract: the first j columns are read, and the search's arrays keep their room. Assumes nothing.
-use mathlib.Core.Path.{_≡_, sym, ap, _∙_}
+use mathlib.Core.Path.{_≡_, refl, sym, ap, _∙_}
+use mir.Syntax.{w16}
+use mir.Val.{toZ}
+use mir.Facts.{toZ-ofZ}
 use Prim.Native.Nat.{_-_, _<_, _≤_}
 use mathlib.Core.List.{[]}
 use lib.ListN.{length, getD}
@@ -18,10 +21,10 @@ use Rattle.readings.proofs.read_row.Statement.{statement}
 use Rattle.readings.proofs.read_row.Tie as tie
 
 abbrev Inv-loop : tie.InvT-loop
-Inv-loop level work limit in-supercodes sums₀ lens₀ bits₀ symbols₀ marks₀ left right values sum₀ j₀ sums lens bits symbols marks sum j = RowFilling level (shortReader (searchOf in-supercodes) limit level) work symbols marks sum j × Room sums lens bits
+Inv-loop level work limit in-supercodes lowest sums₀ lens₀ bits₀ symbols₀ marks₀ left right values sum₀ low₀ j₀ sums lens bits symbols marks sum low j = RowFilling level (shortReader (searchOf in-supercodes) limit level) work (toZ w16 lowest) symbols marks sum (toZ w16 low) j × Room sums lens bits
 
 abbrev μ-loop : tie.MeasureT-loop
-μ-loop level work limit in-supercodes sums₀ lens₀ bits₀ symbols₀ marks₀ left right values sum₀ j₀ sums lens bits symbols marks sum j = 63 - j
+μ-loop level work limit in-supercodes lowest sums₀ lens₀ bits₀ symbols₀ marks₀ left right values sum₀ low₀ j₀ sums lens bits symbols marks sum low j = 63 - j
 
 -- ---- what the places share
 
@@ -55,7 +58,7 @@ tables-of-requires c κs = search needs
 loop-holds : tie.Need-loop-holds Inv-loop μ-loop
 loop-holds c =
     let start = c .before .before .before .before in
-    (nothing-read _ _ _ _ _ (start .pre .2 .many) (start .pre .4) (start .pre .5), start .pre .3)
+    (nothing-read _ _ _ _ _ _ _ (start .pre .2 .many) (start .pre .4) (start .pre .5) refl, start .pre .3)
 
 mul-column : tie.Need-mul-column Inv-loop μ-loop
 mul-column c = search needs
@@ -115,15 +118,16 @@ loop-less c = search needs
 
 loop-again : tie.Need-loop-again Inv-loop μ-loop
 loop-again c =
-    let found = c .before .before in
+    let found = c .before .before .before in
     let turn = turn-of found in
     let j63 = found .before .before .before .before .before .before .before .before .before .loop-test .taken in
-    let entry = c .before .enter .ensures in
-    let few : c .before .enter .result .count ≤ 2000 = omega (arith, entry .2 ∙ ap count (searched-is found), count-few turn) in
-    (one-more-read _ _ _ _ _ _ _ _ _ _ _ (turn .loop .inv .0) j63 (searched-is found) (entry .0) (entry .1) (entry .2) few, found .search-column .ensures .0)
+    let entry = c .before .before .enter .ensures in
+    let few : c .before .before .enter .result .count ≤ 2000 = omega (arith, entry .2 ∙ ap count (searched-is found), count-few turn) in
+    (one-more-read _ _ _ _ _ _ _ _ _ _ _ _ _ _ (turn .loop .inv .0) j63 (searched-is found) (entry .0) (entry .1) (entry .2) (toZ-ofZ (record { sfits = c .struct-told .given .1 .1 .1 .0 .1 }) ∙ entry .3) few, found .search-column .ensures .0)
 
 returns : tie.Need-returns Inv-loop μ-loop
-returns c = (all-read _ _ _ _ _ _ _ (c .before .loop .inv .0) (c .loop-test .left), c .before .loop .inv .1)
+returns c =
+    (all-read _ _ _ _ _ _ _ _ _ _ (c .before .loop .inv .0) (c .loop-test .left) (toZ-ofZ (start (c .before) .fits .lowest)), c .before .loop .inv .1)
 
 pub read-row-spec : {M : Type 1} → statement M
 read-row-spec =

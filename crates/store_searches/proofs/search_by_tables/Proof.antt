@@ -1,5 +1,6 @@
 -- `store_searches::search_by_tables` meets its contract: the outcome's two cases. Assumes nothing.
 use mathlib.Core.Path.{refl, sym, _∙_}
+use mir.Facts.{toZ-ofZ}
 use Rattle.store_searches.proofs.Outcomes.{found-answer, spent-answer}
 use borrow.Author.Needs.{needs}
 use Rattle.store_searches.proofs.search_by_tables.Statement.{statement}
@@ -17,7 +18,7 @@ enum-told : tie.Need-enum-told
 enum-told c = search needs
 
 returns : tie.Need-returns
-returns c = λ s i h tables. found-answer _ _ _ (sym (c .before .found .given .1) ∙ c .before .before .before .search-column .ensures .1 s i h tables)
+returns c = λ s i h tables. found-answer _ _ _ _ _ (sym (c .before .found .given .1) ∙ c .before .before .before .search-column .ensures .1 s i h tables) (toZ-ofZ (record { sfits = c .known-told .given .1 .1 .0 .1 }))
 
 returns-2 : tie.Need-returns-2
 returns-2 c = λ s i h tables. spent-answer _ (sym (c .enum-told .given .1) ∙ c .before .before .search-column .ensures .1 s i h tables)

@@ -1,0 +1,160 @@
+-- The lowest of a list is one of its numbers and none is below it; so of a path's low point. When a search takes a path, the lowest sum of all paths taken is that path's low point. Assumes nothing.
+use mathlib.Core.Bool.{Bool, true, false, cond}
+use mathlib.Core.List.{List, [], _∷_, _++_, map}
+use mathlib.Core.Logic.{_⊎_, inl, inr, ⊎-elim}
+use mathlib.Core.Path.{_≡_, refl, ap, _∙_, subst⁻¹}
+use Prim.Native.Nat.{_<_}
+use native.Mathlib.Omega.{arith}
+use lib.IntN.{ℤ}
+use lib.ListN.{length}
+use lib.Signed.{ltZ, _≤ℤ_, ≤ℤ-refl}
+use Rattle.paths.specs.Lists.{Mem}
+use Rattle.paths.specs.Paths.{Path}
+use Rattle.paths.specs.Tree.{Tree, Exists, Sound}
+use Rattle.paths.specs.Low.{lower, lowest-from, lowest, Lowest, prefixes, low-point}
+use Rattle.paths.proofs.Integers.{not-below, below-is-not-above, ≤ℤ-trans, ≤ℤ-antisym}
+use Rattle.paths.proofs.Lists.{in-append, of-append, in-map, of-map}
+use Rattle.paths.proofs.Prefixes.{Prefix, prefix-self}
+use Rattle.paths.proofs.Invariant.{Invariant}
+
+-- ---- of lists
+
+-- m is one of a and b, and not above either
+abbrev IsLower : ℤ → ℤ → ℤ → Type 0
+IsLower a b m = ((m ≡ a) ⊎ (m ≡ b)) × (m ≤ℤ a) × (m ≤ℤ b)
+
+lower-is : (a b : ℤ) → IsLower a b (lower a b)
+unfolding lower
+lower-is a b = go (ltZ b a) refl
+  where
+    go : (t : Bool) → ltZ b a ≡ t → IsLower a b (cond t b a)
+    go true e = (inr refl, below-is-not-above b a e, ≤ℤ-refl b)
+    go false e = (inl refl, ≤ℤ-refl a, not-below b a e)
+
+-- with one number more
+pub lower-is-lowest : (xs : List ℤ) (z x : ℤ) → Lowest xs z → Lowest (x ∷ xs) (lower z x)
+lower-is-lowest xs z x so = record { is-one = one (low .0); none-below = λ y m. below y m }
+  where
+    low : IsLower z x (lower z x)
+    low = lower-is z x
+
+    one : (lower z x ≡ z) ⊎ (lower z x ≡ x) → Mem (lower z x) (x ∷ xs)
+    one (inl e) = inr (subst⁻¹ (λ (y : ℤ). Mem y xs) e (so .is-one))
+    one (inr e) = inl e
+
+    below : (y : ℤ) → Mem y (x ∷ xs) → lower z x ≤ℤ y
+    below y (inl e) = subst⁻¹ (λ (t : ℤ). lower z x ≤ℤ t) e (low .2)
+    below y (inr m) = ≤ℤ-trans (lower z x) z y (low .1) (so .none-below y m)
+
+lowest-from-is : (z : ℤ) (xs : List ℤ) → Lowest (z ∷ xs) (lowest-from z xs)
+unfolding lowest-from
+lowest-from-is z [] = record { is-one = inl refl; none-below = none }
+  where
+    none : (x : ℤ) → Mem x (z ∷ []) → z ≤ℤ x
+    none x (inl e) = subst⁻¹ (λ (t : ℤ). z ≤ℤ t) e (≤ℤ-refl z)
+lowest-from-is z (x ∷ xs) = go (lowest-from-is (lower z x) xs) (lower-is z x)
+  where
+    go : Lowest (lower z x ∷ xs) (lowest-from (lower z x) xs) → IsLower z x (lower z x) → Lowest (z ∷ x ∷ xs) (lowest-from (lower z x) xs)
+    go so low = record { is-one = one (so .is-one) (low .0); none-below = below }
+      where
+        one : Mem (lowest-from (lower z x) xs) (lower z x ∷ xs) → (lower z x ≡ z) ⊎ (lower z x ≡ x) → Mem (lowest-from (lower z x) xs) (z ∷ x ∷ xs)
+        one (inl e) (inl k) = inl (e ∙ k)
+        one (inl e) (inr k) = inr (inl (e ∙ k))
+        one (inr h) k = inr (inr h)
+
+        below : (y : ℤ) → Mem y (z ∷ x ∷ xs) → lowest-from (lower z x) xs ≤ℤ y
+        below y (inl e) = subst⁻¹ (λ (t : ℤ). lowest-from (lower z x) xs ≤ℤ t) e (≤ℤ-trans _ (lower z x) z (so .none-below (lower z x) (inl refl)) (low .1))
+        below y (inr (inl e)) = subst⁻¹ (λ (t : ℤ). lowest-from (lower z x) xs ≤ℤ t) e (≤ℤ-trans _ (lower z x) x (so .none-below (lower z x) (inl refl)) (low .2))
+        below y (inr (inr h)) = so .none-below y (inr h)
+
+-- of a list of some
+pub lowest-is : (xs : List ℤ) → 0 < length xs → Lowest xs (lowest xs)
+unfolding lowest
+lowest-is [] h = absurd (omega arith)
+lowest-is (x ∷ xs) h = lowest-from-is x xs
+
+-- of two lists, one after the other
+pub lowest-from-append : (z : ℤ) (xs ys : List ℤ) → lowest-from z (xs ++ ys) ≡ lowest-from (lowest-from z xs) ys
+unfolding lowest-from
+lowest-from-append z [] ys = refl
+lowest-from-append z (x ∷ xs) ys = lowest-from-append (lower z x) xs ys
+
+-- a number that is not below the first counts for nothing
+pub lowest-from-above : (z : ℤ) (xs : List ℤ) → 0 < length xs → ((x : ℤ) → Mem x xs → x ≤ℤ z) → lowest-from z xs ≡ lowest xs
+unfolding lowest lowest-from
+lowest-from-above z [] some above = absurd (omega arith)
+lowest-from-above z (x ∷ xs) some above = ap (λ (y : ℤ). lowest-from y xs) (≤ℤ-antisym (lower z x) x (low .2) (go (low .0)))
+  where
+    low : IsLower z x (lower z x)
+    low = lower-is z x
+
+    go : (lower z x ≡ z) ⊎ (lower z x ≡ x) → x ≤ℤ lower z x
+    go (inl e) = subst⁻¹ (λ (y : ℤ). x ≤ℤ y) e (above x (inl refl))
+    go (inr e) = subst⁻¹ (λ (y : ℤ). x ≤ℤ y) e (≤ℤ-refl x)
+
+-- ---- of a path
+
+prefix-in : (r w : Path) → Prefix r w → Mem r (prefixes w)
+unfolding prefixes
+prefix-in r (b ∷ w) (inl e) = inl e
+prefix-in r (b ∷ w) (inr h) = inr (prefix-in r w h)
+
+in-prefix : (r w : Path) → Mem r (prefixes w) → Prefix r w
+unfolding prefixes
+in-prefix r [] m = m
+in-prefix r (b ∷ w) (inl e) = inl e
+in-prefix r (b ∷ w) (inr m) = inr (in-prefix r w m)
+
+low-point-is-lowest : (sum : Path → ℤ) (w : Path) → 0 < length w → Lowest (map sum (prefixes w)) (low-point sum w)
+unfolding low-point prefixes
+low-point-is-lowest sum [] some = absurd (omega arith)
+low-point-is-lowest sum (b ∷ w) some = lowest-is (map sum (prefixes (b ∷ w))) (omega arith)
+
+module _ (sum : Path → ℤ) (w : Path) (some : 0 < length w) where
+  -- some prefix has the low point, and none has less
+  pub some-prefix-has-the-low-point : (r : Path) × Prefix r w × (low-point sum w ≡ sum r)
+  some-prefix-has-the-low-point = let m = of-map sum (low-point sum w) (prefixes w) (low-point-is-lowest sum w some .is-one) in (m .0, in-prefix (m .0) w (m .2), m .1)
+
+  pub no-prefix-is-below-the-low-point : (r : Path) → Prefix r w → low-point sum w ≤ℤ sum r
+  no-prefix-is-below-the-low-point r h = low-point-is-lowest sum w some .none-below (sum r) (in-map sum r (prefixes w) (prefix-in r w h))
+
+-- ---- of a search
+
+-- z is the lowest sum of the paths taken, or the number z₀ that the search began with
+abbrev pub LowSoFar : Tree → ℤ → List Path → ℤ → Type 0
+LowSoFar t z₀ taken z = Lowest (map (t .sum) taken ++ (z₀ ∷ [])) z
+
+pub low-at-start : (t : Tree) (z₀ : ℤ) → LowSoFar t z₀ [] z₀
+unfolding lowest-from
+low-at-start t z₀ = lowest-from-is z₀ []
+
+pub low-of-one-more : (t : Tree) (z₀ : ℤ) (taken : List Path) (p : Path) (z : ℤ) → LowSoFar t z₀ taken z → LowSoFar t z₀ (p ∷ taken) (lower z (t .sum p))
+low-of-one-more t z₀ taken p z so = lower-is-lowest (map (t .sum) taken ++ (z₀ ∷ [])) z (t .sum p) so
+
+-- Until w is taken one of its prefixes is on the stack, so each path taken has a sum not below that of some prefix of w; and all prefixes of w are taken.
+module _ (t : Tree) (sound : Sound t) (taken rest : List Path) (w : Path) (i : Invariant t taken (w ∷ rest)) where
+  there : Exists t w
+  there = i .there w (inr (inl refl))
+
+  above-some-prefix : (p : Path) → Mem p (w ∷ taken) → (r : Path) × Prefix r w × (t .sum r ≤ℤ t .sum p)
+  above-some-prefix p (inl e) = (w, prefix-self w (there .some-bit), subst⁻¹ (λ (x : Path). t .sum w ≤ℤ t .sum x) e (≤ℤ-refl (t .sum w)))
+  above-some-prefix p (inr m) = ⊎-elim (λ k. (p, k, ≤ℤ-refl (t .sum p))) (λ k. (k .0, k .1, sound .sums-fall p (k .0) (k .2))) (i .leads p w m there (i .apart w (inl refl)))
+
+  pub lowest-taken-is-the-low-point : (z₀ z : ℤ) → t .sum w ≤ℤ z₀ → LowSoFar t z₀ (w ∷ taken) z → z ≡ low-point (t .sum) w
+  lowest-taken-is-the-low-point z₀ z high so = ≤ℤ-antisym z (low-point (t .sum) w) below (above (of-append z (map (t .sum) (w ∷ taken)) (z₀ ∷ []) (so .is-one)))
+    where
+      below : z ≤ℤ low-point (t .sum) w
+      below =
+          let r = some-prefix-has-the-low-point (t .sum) w (there .some-bit) in
+          let m : Mem (t .sum (r .0)) (map (t .sum) (w ∷ taken)) = in-map (t .sum) (r .0) (w ∷ taken) (i .below w (r .0) (inr (inl refl)) (r .1)) in
+          subst⁻¹ (λ (x : ℤ). z ≤ℤ x) (r .2) (so .none-below (t .sum (r .0)) (in-append (t .sum (r .0)) (map (t .sum) (w ∷ taken)) (z₀ ∷ []) (inl m)))
+
+      at-most : (r : Path) (y : ℤ) → Prefix r w → t .sum r ≤ℤ y → low-point (t .sum) w ≤ℤ y
+      at-most r y h k = ≤ℤ-trans (low-point (t .sum) w) (t .sum r) y (no-prefix-is-below-the-low-point (t .sum) w (there .some-bit) r h) k
+
+      above : Mem z (map (t .sum) (w ∷ taken)) ⊎ Mem z (z₀ ∷ []) → low-point (t .sum) w ≤ℤ z
+      above (inl m) =
+          let p = of-map (t .sum) z (w ∷ taken) m in
+          let r = above-some-prefix (p .0) (p .2) in
+          subst⁻¹ (λ (x : ℤ). low-point (t .sum) w ≤ℤ x) (p .1) (at-most (r .0) (t .sum (p .0)) (r .1) (r .2))
+      above (inr (inl e)) = subst⁻¹ (λ (x : ℤ). low-point (t .sum) w ≤ℤ x) e (at-most w z₀ (prefix-self w (there .some-bit)) high)
