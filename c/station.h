@@ -117,11 +117,11 @@ static inline uint64_t station_changed_mark(const uint8_t report[STATION_REPORT_
 static inline uint64_t station_erased_mark(const uint8_t report[STATION_REPORT_LEN], unsigned level) { return station_mark(report + 20 + 16 * level); }
 
 /* How close a column came to being lost: the lowest sum that a prefix of a column's word has, over the words that the searches returned at all
-   levels; columns that were erased have none. A page that is read surely has 2; the lower, the closer. The report ends in it: two bytes, two's
-   complement, high byte first. */
+   levels. A page that is read surely has 2; the lower, the closer. Erased columns, the lost ones, have none: read it beside station_erased. The
+   report ends in it: two bytes, two's complement, high byte first. */
 static inline int station_low(const uint8_t report[STATION_REPORT_LEN]) {
-    int bits = report[76] << 8 | report[77];
-    return bits < 32768 ? bits : bits - 65536;
+    int32_t bits = (int32_t)report[76] << 8 | report[77];
+    return (int)(bits < 32768 ? bits : bits - 65536);
 }
 
 #ifdef __cplusplus

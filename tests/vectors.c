@@ -86,18 +86,25 @@ static found searched(const char *mode, const uint8_t *soft, size_t n, uint64_t 
     return mode[0] == 'w' ? entry_search_whole(level, soft, n, limit) : entry_search_supercode(level, soft, n, limit);
 }
 
-/* columns.txt, search.txt and lows.txt: a word's line ends in its count, or in its low point too, which is reckoned here as well; a refusal tells nothing more. */
-static verdict column_line(const record *r) {
+/* A word's line has so many fields, the last its count or, of seven, its low point, which is reckoned here as well; a refusal tells nothing more. */
+static verdict search_line(const record *r, int fields) {
     uint8_t soft[LINE];
     size_t n = strlen(r->field[0]);
-    if (r->count < 5 || r->count > 7) return DIFFERS;
+    if (r->count != 5 && r->count != fields) return DIFFERS;
     for (size_t i = 0; i < n; i++) soft[i] = (uint8_t)(r->field[0][i] - '0');
     found f = searched(r->field[3], soft, n, decimal(r->field[1]), decimal(r->field[2]));
     if (r->count == 5) return f.number == decimal(r->field[4]) && f.place == 0 && !f.word && !f.count && !f.low ? SAME : DIFFERS;
+    if (f.number || n != BITS) return DIFFERS;
     int low = low_point(soft, decimal(r->field[1]), f.word);
-    if (r->count == 7 && low != atoi(r->field[6])) return DIFFERS;
-    return f.number == 0 && f.word == decimal(r->field[4]) && f.count == decimal(r->field[5]) && f.low == low ? SAME : DIFFERS;
+    if (fields == 7 && low != atoi(r->field[6])) return DIFFERS;
+    return f.word == decimal(r->field[4]) && f.count == decimal(r->field[5]) && f.low == low ? SAME : DIFFERS;
 }
+
+/* columns.txt */
+static verdict column_line(const record *r) { return search_line(r, 6); }
+
+/* search.txt and lows.txt */
+static verdict low_line(const record *r) { return search_line(r, 7); }
 
 /* What a row call wrote is the word of the line, or nothing. */
 static verdict wrote(filled f, const uint8_t *out, const char *expected) {
@@ -342,7 +349,7 @@ static void check_dump(const char *folder, const char *name) {
 }
 
 static const struct { const char *name; verdict (*line_of)(const record *); } texts[] = {
-    {"code.txt", code_line}, {"columns.txt", column_line}, {"search.txt", column_line}, {"lows.txt", column_line}, {"outer.txt", outer_line}, {"pages.txt", page_line}, {"reports.txt", report_line}, {"refusals.txt", refusal_line},
+    {"code.txt", code_line}, {"columns.txt", column_line}, {"search.txt", low_line}, {"lows.txt", low_line}, {"outer.txt", outer_line}, {"pages.txt", page_line}, {"reports.txt", report_line}, {"refusals.txt", refusal_line},
 };
 enum { TEXTS = sizeof texts / sizeof texts[0] };
 

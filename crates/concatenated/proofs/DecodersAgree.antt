@@ -35,7 +35,7 @@ module _ (S : Shape) (searchable : (i : ℕ) → i < levels S → Searchable S i
     column-searches-differ-by-the-dead-ahead (suc i) h cs at =
         all-map cs (λ c unspent. searches-differ-by-the-dead-ahead S (suc i) (searchable (suc i) h) vs limit c unspent) (none-spent (suc i) h cs at (omega arith))
 
-    -- the same rows with the same changed and erased columns at each level, or the same refusal; the steps differ by all dead paths ahead together
+    -- the same rows with the same changed and erased columns and low points at each level, or the same refusal; the steps differ by all dead paths ahead together
     pub decoders-agree : Agree (sumBelow S outer bySupercode page (deadAhead S vs limit) (levels S)) (decoded S outer byWhole page) (decoded S outer bySupercode page)
     decoders-agree = answers-agree S outer byWhole bySupercode (deadAhead S vs limit) page column-searches-differ-by-the-dead-ahead
 

@@ -91,8 +91,9 @@ found-low-is-near S i given vs k near limit kind c w n e =
 
 module _ (P : Format) (outer : RowDecoder) (encoded : RowEncoder) (Codeword : ℕ → List ℕ → Type 0) (laws : OuterLaws P outer encoded Codeword) (read : Reader)
     (page : List (List ℕ)) (wide : length page ≡ P .columns) (ls : List Level) (n : ℕ) (e : decoded (P .shape) outer read page ≡ answered ls n) where
-  -- s ≤ T, so that T below the number of columns leaves one
-  pub every-level-has-an-unerased-column : (i : ℕ) → i < levels (P .shape) → P .roots i < P .columns → (d : Level) → 0 < length (getD ls i d .lows)
+  -- s ≤ T, so that T below the number of columns leaves one; the low points are as many as the columns that are not erased
+  pub every-level-has-an-unerased-column : (i : ℕ) → i < levels (P .shape) → P .roots i < P .columns → (d : Level)
+      → (total (getD ls i d .erased) < P .columns) × (length (getD ls i d .lows) + total (getD ls i d .erased) ≡ P .columns)
   unfolding level InReach
   every-level-has-an-unerased-column i h few d =
       let rule = changed-and-erased-are-e-and-s P outer encoded Codeword laws read page wide ls n e i h d in
@@ -101,12 +102,12 @@ module _ (P : Format) (outer : RowDecoder) (encoded : RowEncoder) (Codeword : �
       let all : length (lows rs) + total (marks rs) ≡ P .columns = lows-and-erased rs ∙ length-map (of .columns) (read i) ∙ reached-columns-are-all P outer encoded Codeword laws read page wide i (omega arith) (of .columns) (of .reached) in
       let same-lows : length (getD ls i d .lows) ≡ length (lows rs) = ap (λ (l : Level). length (l .lows)) (of .is-level) in
       let same-erased : total (getD ls i d .erased) ≡ total (marks rs) = ap (λ (l : Level). total (l .erased)) (of .is-level) in
-      omega (arith, all, same-lows, same-erased, rule .erased-is-s, rule .is-in-reach, few)
+      (omega (arith, rule .erased-is-s, rule .is-in-reach, few), omega (arith, all, same-lows, same-erased))
 
   module _ (some : 0 < levels (P .shape)) (few : (i : ℕ) → i < levels (P .shape) → P .roots i < P .columns) where
     some-lows : 0 < length (allLows ls)
     unfolding allLows
-    some-lows = go ls (answer-is-of-levels (P .shape) outer read page ls n e .as-many) (every-level-has-an-unerased-column 0 some (few 0 some))
+    some-lows = go ls (answer-is-of-levels (P .shape) outer read page ls n e .as-many) (λ d. let first = every-level-has-an-unerased-column 0 some (few 0 some) d in omega (arith, first .0, first .1))
       where
         go : (ks : List Level) → length ks ≡ levels (P .shape) → ((d : Level) → 0 < length (getD ks 0 d .lows)) → 0 < length (allLows ks)
         go [] long first = absurd (omega (arith, long, some))
@@ -128,7 +129,7 @@ module _ (kind : Kind) (limit : ℕ) (page : List (List ℕ)) (wide : length pag
   few-roots : (i : ℕ) → i < 4 → shortRoots i < 63
   few-roots i h = omega (arith, at-most-30-roots i)
 
-  pub short-levels-have-an-unerased-column : (i : ℕ) → i < 4 → (d : Level) → 0 < length (getD ls i d .lows)
+  pub short-levels-have-an-unerased-column : (i : ℕ) → i < 4 → (d : Level) → (total (getD ls i d .erased) < 63) × (length (getD ls i d .lows) + total (getD ls i d .erased) ≡ 63)
   short-levels-have-an-unerased-column i h =
       every-level-has-an-unerased-column shortPage shortOuter shortEncoder ShortCodeword outer-laws (shortReader kind limit) page wide ls n e i h (few-roots i h)
 

@@ -1,11 +1,11 @@
 -- Signed numbers in 16 bits: what the code reckons, and that they come back. Assumes nothing.
-use mathlib.Core.Bool.{Bool, true, false, cond, false≢true}
+use mathlib.Core.Bool.{true, false, false≢true}
 use mathlib.Core.Path.{_≡_, refl, sym, ap, _∙_, subst⁻¹}
 use Prim.Native.Nat.{ℕ, suc, _-_, _<_}
 use native.Mathlib.Omega.{arith}
 use lib.IntN.{ℤ, pos, negsuc, _-ℤ_}
 use lib.Signed.{mag, ltZ}
-use borrow.Author.Tests.{ltb-true, lt-ltb, le-ltb}
+use borrow.Author.Tests.{ltb-true, le-ltb}
 use mir.Syntax.{w16}
 use mir.Val.{SFits, toZ, ofZ}
 use mir.Facts.{toZ-ofZ}
@@ -34,7 +34,7 @@ module _ (z : ℤ) (fits : SFits w16 z) where
     difference-is = toZ-ofZ difference-fits ∙ less-it
 
     pub negative-bits : 65535 - mag z ≡ sixteenBits z
-    negative-bits = sym (ap sixteenBits is-negative)
+    negative-bits = let size : 65535 - mag z ≡ 65536 - suc (mag z) = omega arith in size ∙ sym (ap sixteenBits is-negative)
 
   pub not-negative : ltZ (toZ w16 (ofZ w16 z)) (pos 0) ≡ false → toZ w16 (ofZ w16 z) ≡ pos (sixteenBits z)
   not-negative above = toZ-ofZ fits ∙ go z (ap (λ (y : ℤ). ltZ y (pos 0)) (sym (toZ-ofZ fits)) ∙ above)
@@ -45,9 +45,8 @@ module _ (z : ℤ) (fits : SFits w16 z) where
 
 -- the number comes back from its bits
 pub signed-back : (z : ℤ) → mag z < 32768 → signedOf (sixteenBits z) ≡ z
-signed-back (pos n) h = ap (λ (b : Bool). cond b (pos n) (negsuc (65535 - n))) (lt-ltb n 32768 h)
-signed-back (negsuc n) h =
-    ap (λ (b : Bool). cond b (pos (65535 - n)) (negsuc (65535 - (65535 - n)))) (le-ltb (65535 - n) 32768 (omega arith)) ∙ ap negsuc (omega arith)
+signed-back (pos n) h = toZ-ofZ {w = w16} (record { sfits = h })
+signed-back (negsuc n) h = toZ-ofZ {w = w16} (record { sfits = h })
 
 pub sixteen-bits-few : (z : ℤ) → mag z < 32768 → sixteenBits z < 65536
 sixteen-bits-few (pos n) h = omega arith

@@ -1,7 +1,7 @@
 -- 01: "Rows and page", bytes, symbols and columns by digits: a run of them is one number, its first entry the highest digit; signed numbers in 16 bits. Assumes nothing.
 use mathlib.Core.List.{List, [], _∷_}
 use mathlib.Core.Bool.{cond}
-use Prim.Native.Nat.{ℕ, _+_, _-_, _*_, _/_, _%_, _^_}
+use Prim.Native.Nat.{ℕ, suc, _+_, _-_, _*_, _/_, _%_, _^_}
 use lib.Dec.{ltb}
 use lib.IntN.{ℤ, pos, negsuc}
 use Rattle.packing.specs.declared.Symbols.{Symbols}
@@ -36,7 +36,7 @@ columnBytes column =
 -- two's complement: a signed number as 16 bits, and the number that 16 bits are
 abbrev pub sixteenBits : ℤ → ℕ
 sixteenBits (pos n) = n
-sixteenBits (negsuc n) = 65535 - n
+sixteenBits (negsuc n) = 65536 - suc n
 
 abbrev pub signedOf : ℕ → ℤ
-signedOf n = cond (ltb n 32768) (pos n) (negsuc (65535 - n))
+signedOf n = cond (ltb n 32768) (pos n) (negsuc (65536 - suc n))

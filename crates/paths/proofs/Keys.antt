@@ -21,7 +21,7 @@ use Rattle.paths.proofs.Booleans.{is-false}
 use Rattle.paths.proofs.Lists.{of-map}
 use Rattle.paths.proofs.Stack.{grow-length}
 use Rattle.paths.proofs.Invariant.{Invariant, step-invariant, start-invariant}
-use Rattle.paths.proofs.Low.{LowSoFar, low-at-start, low-of-one-more, lowest-taken-is-the-low-point}
+use Rattle.paths.proofs.Low.{LowSoFar, low-at-start, low-of-one-more, lowest-so-far-is-the-low-point}
 use Rattle.paths.proofs.Run.{answer-is-not-spent}
 
 -- ---- on keys alone
@@ -149,7 +149,7 @@ module _ (t : Tree) {A : Type 0} (N : Nodes A) (key : Path → A) (keys : KeysOf
               ≡ with-key (key-with-low t key) (run t (λ p. accept (key p)) fuel (record { taken = p ∷ taken; stack = grow (nodes t) p rest }))
               → cond b (answer (told (lower z (t .sum p))) (suc (length taken))) (run-keys N accept fuel (suc (length taken)) (lower z (t .sum p)) (map key (grow (nodes t) p rest)))
               ≡ with-key (key-with-low t key) (cond b (answer p (suc (length taken))) (run t (λ p. accept (key p)) fuel (record { taken = p ∷ taken; stack = grow (nodes t) p rest })))
-          go true ih = ap (λ (y : ℤ). answer (told y) (suc (length taken))) (lowest-taken-is-the-low-point t sound taken rest p i z₀ (lower z (t .sum p)) (high p here) one-more)
+          go true ih = ap (λ (y : ℤ). answer (told y) (suc (length taken))) (lowest-so-far-is-the-low-point t sound taken rest p i z₀ (lower z (t .sum p)) (high p here) one-more)
           go false ih = ih
 
     stack-after-from : (k : ℕ) (taken stack : List Path) → Invariant t taken stack → map key (steps t k (record { taken = taken; stack = stack }) .stack) ≡ stack-after N k (map key stack)

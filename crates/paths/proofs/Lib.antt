@@ -7,7 +7,6 @@ pub mod Shared
 pub mod Ahead
 pub mod Stack
 pub mod Invariant
-pub mod Low
 pub mod Taken
 pub mod Steps
 pub mod Arrival
@@ -15,6 +14,7 @@ pub mod Number
 pub mod Words
 pub mod Winner
 pub mod Run
+pub mod Low
 pub mod Limit
 pub mod Dead
 pub mod Keys

@@ -1,9 +1,9 @@
--- The lowest of a list is one of its numbers and none is below it; so of a path's low point. When a search takes a path, the lowest sum of all paths taken is that path's low point. Assumes nothing.
+-- The lowest of a list is one of its numbers and none is below it; so of a path's low point. The low point of the word that a search answers is the lowest sum of all paths that it took. Assumes nothing.
 use mathlib.Core.Bool.{Bool, true, false, cond}
 use mathlib.Core.List.{List, [], _∷_, _++_, map}
 use mathlib.Core.Logic.{_⊎_, inl, inr, ⊎-elim}
 use mathlib.Core.Path.{_≡_, refl, ap, _∙_, subst⁻¹}
-use Prim.Native.Nat.{_<_}
+use Prim.Native.Nat.{ℕ, _<_}
 use native.Mathlib.Omega.{arith}
 use lib.IntN.{ℤ}
 use lib.ListN.{length}
@@ -11,11 +11,15 @@ use lib.Signed.{ltZ, _≤ℤ_, ≤ℤ-refl}
 use Rattle.paths.specs.Lists.{Mem}
 use Rattle.paths.specs.Paths.{Path}
 use Rattle.paths.specs.Tree.{Tree, Exists, Sound}
+use Rattle.paths.specs.Search.{answer, start, after, run}
 use Rattle.paths.specs.Low.{lower, lowest-from, lowest, Lowest, prefixes, low-point}
 use Rattle.paths.proofs.Integers.{not-below, below-is-not-above, ≤ℤ-trans, ≤ℤ-antisym}
 use Rattle.paths.proofs.Lists.{in-append, of-append, in-map, of-map}
 use Rattle.paths.proofs.Prefixes.{Prefix, prefix-self}
 use Rattle.paths.proofs.Invariant.{Invariant}
+use Rattle.paths.proofs.Steps.{after-zero}
+use Rattle.paths.proofs.Arrival.{invariant-then, taken-at-number}
+use Rattle.paths.proofs.Run.{answer-is-the-next}
 
 -- ---- of lists
 
@@ -32,7 +36,7 @@ lower-is a b = go (ltZ b a) refl
     go false e = (inl refl, ≤ℤ-refl a, not-below b a e)
 
 -- with one number more
-pub lower-is-lowest : (xs : List ℤ) (z x : ℤ) → Lowest xs z → Lowest (x ∷ xs) (lower z x)
+lower-is-lowest : (xs : List ℤ) (z x : ℤ) → Lowest xs z → Lowest (x ∷ xs) (lower z x)
 lower-is-lowest xs z x so = record { is-one = one (low .0); none-below = λ y m. below y m }
   where
     low : IsLower z x (lower z x)
@@ -79,7 +83,7 @@ unfolding lowest-from
 lowest-from-append z [] ys = refl
 lowest-from-append z (x ∷ xs) ys = lowest-from-append (lower z x) xs ys
 
--- a number that is not below the first counts for nothing
+-- a number that none is above counts for nothing
 pub lowest-from-above : (z : ℤ) (xs : List ℤ) → 0 < length xs → ((x : ℤ) → Mem x xs → x ≤ℤ z) → lowest-from z xs ≡ lowest xs
 unfolding lowest lowest-from
 lowest-from-above z [] some above = absurd (omega arith)
@@ -131,30 +135,42 @@ low-at-start t z₀ = lowest-from-is z₀ []
 pub low-of-one-more : (t : Tree) (z₀ : ℤ) (taken : List Path) (p : Path) (z : ℤ) → LowSoFar t z₀ taken z → LowSoFar t z₀ (p ∷ taken) (lower z (t .sum p))
 low-of-one-more t z₀ taken p z so = lower-is-lowest (map (t .sum) taken ++ (z₀ ∷ [])) z (t .sum p) so
 
--- Until w is taken one of its prefixes is on the stack, so each path taken has a sum not below that of some prefix of w; and all prefixes of w are taken.
-module _ (t : Tree) (sound : Sound t) (taken rest : List Path) (w : Path) (i : Invariant t taken (w ∷ rest)) where
-  there : Exists t w
-  there = i .there w (inr (inl refl))
+module _ (t : Tree) (sound : Sound t) where
+  -- Until w is taken one of its prefixes is on the stack, so each path taken has a sum not below that of some prefix of w; and all prefixes of w are taken.
+  module _ (taken rest : List Path) (w : Path) (i : Invariant t taken (w ∷ rest)) where
+    there : Exists t w
+    there = i .there w (inr (inl refl))
 
-  above-some-prefix : (p : Path) → Mem p (w ∷ taken) → (r : Path) × Prefix r w × (t .sum r ≤ℤ t .sum p)
-  above-some-prefix p (inl e) = (w, prefix-self w (there .some-bit), subst⁻¹ (λ (x : Path). t .sum w ≤ℤ t .sum x) e (≤ℤ-refl (t .sum w)))
-  above-some-prefix p (inr m) = ⊎-elim (λ k. (p, k, ≤ℤ-refl (t .sum p))) (λ k. (k .0, k .1, sound .sums-fall p (k .0) (k .2))) (i .leads p w m there (i .apart w (inl refl)))
+    above-some-prefix : (p : Path) → Mem p (w ∷ taken) → (r : Path) × Prefix r w × (t .sum r ≤ℤ t .sum p)
+    above-some-prefix p (inl e) = (w, prefix-self w (there .some-bit), subst⁻¹ (λ (x : Path). t .sum w ≤ℤ t .sum x) e (≤ℤ-refl (t .sum w)))
+    above-some-prefix p (inr m) = ⊎-elim (λ k. (p, k, ≤ℤ-refl (t .sum p))) (λ k. (k .0, k .1, sound .sums-fall p (k .0) (k .2))) (i .leads p w m there (i .apart w (inl refl)))
 
-  pub lowest-taken-is-the-low-point : (z₀ z : ℤ) → t .sum w ≤ℤ z₀ → LowSoFar t z₀ (w ∷ taken) z → z ≡ low-point (t .sum) w
-  lowest-taken-is-the-low-point z₀ z high so = ≤ℤ-antisym z (low-point (t .sum) w) below (above (of-append z (map (t .sum) (w ∷ taken)) (z₀ ∷ []) (so .is-one)))
-    where
-      below : z ≤ℤ low-point (t .sum) w
-      below =
-          let r = some-prefix-has-the-low-point (t .sum) w (there .some-bit) in
-          let m : Mem (t .sum (r .0)) (map (t .sum) (w ∷ taken)) = in-map (t .sum) (r .0) (w ∷ taken) (i .below w (r .0) (inr (inl refl)) (r .1)) in
-          subst⁻¹ (λ (x : ℤ). z ≤ℤ x) (r .2) (so .none-below (t .sum (r .0)) (in-append (t .sum (r .0)) (map (t .sum) (w ∷ taken)) (z₀ ∷ []) (inl m)))
+    lowest-of-taken : Lowest (map (t .sum) (w ∷ taken)) (low-point (t .sum) w)
+    lowest-of-taken =
+        let r = some-prefix-has-the-low-point (t .sum) w (there .some-bit) in
+        record {
+          is-one = subst⁻¹ (λ (z : ℤ). Mem z (map (t .sum) (w ∷ taken))) (r .2) (in-map (t .sum) (r .0) (w ∷ taken) (i .below w (r .0) (inr (inl refl)) (r .1)));
+          none-below = λ z m.
+              let p = of-map (t .sum) z (w ∷ taken) m in
+              let q = above-some-prefix (p .0) (p .2) in
+              subst⁻¹ (λ (x : ℤ). low-point (t .sum) w ≤ℤ x) (p .1) (≤ℤ-trans _ (t .sum (q .0)) (t .sum (p .0)) (no-prefix-is-below-the-low-point (t .sum) w (there .some-bit) (q .0) (q .1)) (q .2));
+        }
 
-      at-most : (r : Path) (y : ℤ) → Prefix r w → t .sum r ≤ℤ y → low-point (t .sum) w ≤ℤ y
-      at-most r y h k = ≤ℤ-trans (low-point (t .sum) w) (t .sum r) y (no-prefix-is-below-the-low-point (t .sum) w (there .some-bit) r h) k
+    -- a number that is not below w's sum counts for nothing
+    pub lowest-so-far-is-the-low-point : (z₀ z : ℤ) → t .sum w ≤ℤ z₀ → LowSoFar t z₀ (w ∷ taken) z → z ≡ low-point (t .sum) w
+    lowest-so-far-is-the-low-point z₀ z high so =
+        let sums = map (t .sum) (w ∷ taken) in
+        ≤ℤ-antisym z (low-point (t .sum) w) (so .none-below (low-point (t .sum) w) (in-append (low-point (t .sum) w) sums (z₀ ∷ []) (inl (lowest-of-taken .is-one)))) (above (of-append z sums (z₀ ∷ []) (so .is-one)))
+      where
+        above : Mem z (map (t .sum) (w ∷ taken)) ⊎ Mem z (z₀ ∷ []) → low-point (t .sum) w ≤ℤ z
+        above (inl m) = lowest-of-taken .none-below z m
+        above (inr (inl e)) = subst⁻¹ (λ (x : ℤ). low-point (t .sum) w ≤ℤ x) e (≤ℤ-trans _ (t .sum w) z₀ (lowest-of-taken .none-below (t .sum w) (inl refl)) high)
 
-      above : Mem z (map (t .sum) (w ∷ taken)) ⊎ Mem z (z₀ ∷ []) → low-point (t .sum) w ≤ℤ z
-      above (inl m) =
-          let p = of-map (t .sum) z (w ∷ taken) m in
-          let r = above-some-prefix (p .0) (p .2) in
-          subst⁻¹ (λ (x : ℤ). low-point (t .sum) w ≤ℤ x) (p .1) (at-most (r .0) (t .sum (p .0)) (r .1) (r .2))
-      above (inr (inl e)) = subst⁻¹ (λ (x : ℤ). low-point (t .sum) w ≤ℤ x) e (at-most w z₀ (prefix-self w (there .some-bit)) high)
+  -- the law of the search: with any accepted set and limit, the low point of the word that it answers is the lowest sum of all paths that it took
+  pub low-point-is-the-lowest-taken : (accept : Path → Bool) (limit : ℕ) (w : Path) (c : ℕ) → run t accept limit (start t) ≡ answer w c
+      → Lowest (map (t .sum) (after t c .taken)) (low-point (t .sum) w)
+  low-point-is-the-lowest-taken accept limit w c e =
+      let next = answer-is-the-next t sound accept limit 0 w c (ap (run t accept limit) (after-zero t) ∙ e) in
+      let full = next .0 .full in
+      subst⁻¹ (λ (l : List Path). Lowest (map (t .sum) l) (low-point (t .sum) w)) (ap (λ (k : ℕ). after t k .taken) (next .1) ∙ taken-at-number t sound w full)
+      (lowest-of-taken _ _ w (invariant-then t sound w full))

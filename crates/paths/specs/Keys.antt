@@ -18,7 +18,7 @@ pub record WithLow (A : Type 0) : Type 0 where
   pub low : ℤ
 
 module _ {A : Type 0} (nodes : Nodes A) where
-  -- as `run`, from a stack of keys, when count-many were taken, the lowest of them with the sum `low`
+  -- as `run`, from a stack of keys, when count-many were taken; `low` is the lowest of their sums and of the number that it began with
   unfoldable pub run-keys : (A → Bool) → ℕ → ℕ → ℤ → List A → SearchResult (WithLow A)
   run-keys accept zero count low stack = spent count
   run-keys accept (suc fuel) count low [] = spent count

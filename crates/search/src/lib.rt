@@ -35,7 +35,7 @@ pub struct Progress {
     pub low: i16,
 }
 
-// What the lowest sum is before a path is taken: no sum is above it.
+// What the lowest sum is before a path is taken, and the lowest low point before a column is read: no sum is above it.
 pub const NONE_TAKEN: i16 = 32767;
 
 // The lower of two sums.

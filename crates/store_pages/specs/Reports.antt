@@ -1,10 +1,11 @@
 -- 02, what holds of the report of either page decoder: point 6, "column j at bit j", "The totals stay and equal the number of ones in each mark"; point 8, the low point. Assumes nothing.
 use mathlib.Core.List.{List, map}
 use mathlib.Core.Path.{_≡_}
-use Prim.Native.Nat.{ℕ, _^_, _<_}
+use Prim.Native.Nat.{ℕ, _+_, _^_, _<_}
 use lib.Count.{ones}
 use lib.ListN.{length, getD}
 use Rattle.concatenated.specs.Flags.{flag}
+use Rattle.concatenated.specs.Lists.{total}
 use Rattle.concatenated.specs.Outer.{isIn}
 use Rattle.concatenated.specs.Marks.{bitOf}
 use Rattle.concatenated.specs.Decode.{Level, PageAnswer, answered, allLows}
@@ -31,9 +32,9 @@ pub record MarksOf (answer : PageAnswer) (r : Report) : Type 0 where
   pub changed-bit : (i j : ℕ) (d : Level) → i < 4 → bitAt (r .«changed_marks») i j ≡ flag (isIn (getD levels i d .changed) j)
   pub erased-bit : (i j : ℕ) (d : Level) → i < 4 → bitAt (r .«erased_marks») i j ≡ flag (isIn (getD levels i d .erased) j)
 
--- an answer's report: every level has an unerased column, and the low point is the lowest of the unerased columns of all levels
+-- an answer's report: at every level fewer columns are erased than there are, each of the others has a low point, and the report's is the lowest of all of these
 pub record LowestColumn (answer : PageAnswer) (r : Report) : Type 0 where
   pub levels : List Level
   pub is : answer ≡ answered levels (r .steps)
-  pub some-unerased : (i : ℕ) → i < 4 → (d : Level) → 0 < length (getD levels i d .lows)
+  pub some-unerased : (i : ℕ) → i < 4 → (d : Level) → (total (getD levels i d .erased) < 63) × (length (getD levels i d .lows) + total (getD levels i d .erased) ≡ 63)
   pub lowest : Lowest (allLows levels) (r .low)

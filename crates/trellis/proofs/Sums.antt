@@ -56,7 +56,7 @@ near-at k (x ∷ xs) t j = go (leb (natAbs x) k) (leb→le (natAbs x) k) t (near
 abbrev pub Near : ℕ → Values → Type 0
 Near k vs = (b q : ℕ) → natAbs (branch vs b q) ≤ k
 
-pub branches-near : (k : ℕ) (vs : Values) → T (near k (vs .agree)) → T (near k (vs .disagree)) → Near k vs
+branches-near : (k : ℕ) (vs : Values) → T (near k (vs .agree)) → T (near k (vs .disagree)) → Near k vs
 unfolding branch
 branches-near k vs agree disagree b q = go (eqb (reading q) b)
   where

@@ -59,7 +59,7 @@ keyNodes n vs soft left right = record {
   full = λ k. eqb (k .len) n;
 }
 
--- the lowest sum before a path is taken: the largest number of 16 bits, which no sum is above
+-- the lowest sum before a path is taken: the largest number of 16 bits; `key-search-is-the-search` asks that no sum is above it
 abbrev pub noneTaken : ℤ
 noneTaken = pos 32767
 
