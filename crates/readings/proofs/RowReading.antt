@@ -69,22 +69,21 @@ unfolding sum
 sum-append [] n = omega arith
 sum-append (x ∷ xs) n = omega (arith, sum-append xs n)
 
+-- one column more is read
+read-more : (read : List ℕ → Reading) (work : List (List ℕ)) (j : ℕ) → j < length work → map read (take (j + 1) work) ≡ map read (take j work) ++ (read (getD work j []) ∷ [])
+read-more read work j h =
+    ap (λ (k : ℕ). map read (take k work)) (add-one j) ∙ ap (map read) (take-suc work j [] h) ∙ map-append read (take j work) (getD work j [] ∷ [])
+
 steps-more : (read : List ℕ → Reading) (work : List (List ℕ)) (j : ℕ) → j < length work
     → steps (map read (take (j + 1) work)) ≡ steps (map read (take j work)) + count (read (getD work j []))
 steps-more read work j h =
-    ap (λ (k : ℕ). steps (map read (take k work))) (add-one j)
-    ∙ ap (λ (t : List (List ℕ)). steps (map read t)) (take-suc work j [] h)
-    ∙ ap (λ (t : List Reading). sum (map count t)) (map-append read (take j work) (getD work j [] ∷ []))
-    ∙ ap sum (map-append count (map read (take j work)) (read (getD work j []) ∷ []))
+    ap steps (read-more read work j h) ∙ ap sum (map-append count (map read (take j work)) (read (getD work j []) ∷ []))
     ∙ sum-append (map count (map read (take j work))) (count (read (getD work j [])))
 
 lows-more : (read : List ℕ → Reading) (z₀ : ℤ) (work : List (List ℕ)) (j : ℕ) → j < length work
     → lowest-from z₀ (lows (map read (take (j + 1) work))) ≡ lowest-from (lowest-from z₀ (lows (map read (take j work)))) (lows (read (getD work j []) ∷ []))
 lows-more read z₀ work j h =
-    ap (λ (k : ℕ). lowest-from z₀ (lows (map read (take k work)))) (add-one j)
-    ∙ ap (λ (t : List (List ℕ)). lowest-from z₀ (lows (map read t))) (take-suc work j [] h)
-    ∙ ap (λ (t : List Reading). lowest-from z₀ (lows t)) (map-append read (take j work) (getD work j [] ∷ []))
-    ∙ ap (lowest-from z₀) (lows-append (map read (take j work)) (read (getD work j []) ∷ []))
+    ap (λ (t : List Reading). lowest-from z₀ (lows t)) (read-more read work j h) ∙ ap (lowest-from z₀) (lows-append (map read (take j work)) (read (getD work j []) ∷ []))
     ∙ lowest-from-append z₀ (lows (map read (take j work))) (lows (read (getD work j []) ∷ []))
 
 -- j columns are read
