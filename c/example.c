@@ -1,5 +1,5 @@
-/* One page of a station: weights are written, the page wears, its bits are read as eight levels, and the weights come back; when it is worn more, after a second
-   decode with a larger limit. Compiles as C and as C++. */
+/* One page of a station: weights are written, the page wears, and its bits are read as eight levels. The station asks what decoding would give, when the page is worn
+   more a second time with a larger limit; it looks at the damage, and commits the weights in the place of its old record. Compiles as C and as C++. */
 #include "station.h"
 #include <stdio.h>
 #include <string.h>
@@ -68,26 +68,40 @@ static void print_report(const uint8_t report[STATION_REPORT_LEN]) {
     }
 }
 
-/* Decodes as a station should: with the default limit and, if no word is in reach then, once more with the largest. */
-static uint64_t decode(const uint8_t soft[STATION_SOFT_LEN], uint8_t data[STATION_DATA_LEN], uint8_t report[STATION_REPORT_LEN]) {
-    uint64_t result = station_decode_page(soft, STATION_SOFT_LEN, data, STATION_DATA_LEN, report, STATION_REPORT_LEN);
+/* Asks as a station should: with the default limit and, if no word is in reach then, once more with the largest. Decoding goes the same way, with the data in the place
+   of the symbols. */
+static uint64_t ask(const uint8_t soft[STATION_SOFT_LEN], uint8_t symbols[STATION_SYMBOLS_LEN], uint8_t report[STATION_REPORT_LEN]) {
+    uint64_t result = station_ask_page(soft, STATION_SOFT_LEN, symbols, STATION_SYMBOLS_LEN, report, STATION_REPORT_LEN);
     if (station_number(result) != STATION_NO_WORD) return result;
     printf("no word in reach at level %lu with limit %d: once more with %d\n", (unsigned long)station_place(result), STATION_DEFAULT_LIMIT, STATION_LARGEST_LIMIT);
-    return station_decode_page_limit(soft, STATION_SOFT_LEN, STATION_LARGEST_LIMIT, data, STATION_DATA_LEN, report, STATION_REPORT_LEN);
+    return station_ask_page_limit(soft, STATION_SOFT_LEN, STATION_LARGEST_LIMIT, symbols, STATION_SYMBOLS_LEN, report, STATION_REPORT_LEN);
+}
+
+/* How many columns more a level could lose: twice the changed ones plus the erased ones may come to 30, 12, 6 and 4. Gives the least of the levels. */
+static unsigned reserve(const uint8_t report[STATION_REPORT_LEN]) {
+    static const unsigned roots[STATION_LEVELS] = {30, 12, 6, 4};
+    unsigned least = roots[0];
+    for (unsigned level = 0; level < STATION_LEVELS; level++) {
+        unsigned left = roots[level] - (2 * station_changed(report, level) + station_erased(report, level));
+        if (left < least) least = left;
+    }
+    return least;
 }
 
 int main(void) {
-    uint8_t data[STATION_DATA_LEN], page[STATION_PAGE_LEN], soft[STATION_SOFT_LEN], back[STATION_DATA_LEN], report[STATION_REPORT_LEN];
+    uint8_t data[STATION_DATA_LEN], page[STATION_PAGE_LEN], soft[STATION_SOFT_LEN], symbols[STATION_SYMBOLS_LEN], record[STATION_DATA_LEN], report[STATION_REPORT_LEN];
     weigh(data);
     if (refused("encode", station_encode_page(data, sizeof data, page, sizeof page))) return 1;
     for (unsigned wear = 1; wear <= 2; wear++) {
         printf("%d of %d bits read wrongly\n", read_worn(page, wear, soft), STATION_SOFT_LEN);
-        if (refused("decode", decode(soft, back, report))) return 1;
+        if (refused("ask", ask(soft, symbols, report))) return 1;
         print_report(report);
-        int same = !memcmp(data, back, sizeof data);
+        printf("reserve %u, and the old record is still there: commit\n", reserve(report));
+        if (refused("commit", station_commit_page(symbols, sizeof symbols, record, sizeof record))) return 1;
+        int same = !memcmp(data, record, sizeof data);
         puts(same ? "the data are as written" : "the data differ");
         if (!same) return 1;
     }
-    for (int i = 0; i < RECORDS; i++) printf("%.*s\n", RECORD, (const char *)back + RECORD * i);
+    for (int i = 0; i < RECORDS; i++) printf("%.*s\n", RECORD, (const char *)record + RECORD * i);
     return 0;
 }

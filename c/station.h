@@ -1,11 +1,14 @@
 /* station.h: the station's C interface to the soft page store.
 
-   A page holds 150 bytes of data in 63 columns of 30 bits. Four calls serve it:
+   A page holds 150 bytes of data in 63 columns of 30 bits. Seven calls serve it:
 
        station_encode_page         data              -> written page
        station_read_dump           chip dump         -> soft page
        station_decode_page         soft page         -> data and a report
        station_decode_page_limit   soft page, limit  -> data and a report
+       station_ask_page            soft page         -> corrected symbols and a report
+       station_ask_page_limit      soft page, limit  -> corrected symbols and a report
+       station_commit_page         corrected symbols -> data
 
    BUFFERS. Each is passed as a pointer and a length in bytes and stays the caller's; nothing is kept after the call. The pointer is valid for
    that length; with length 0 it may be NULL. An output may not overlap another buffer of the call.
@@ -19,7 +22,9 @@
        STATION_FIXED_BYTES     7   are a dump block's fixed and zero bytes right?    place: the block, 0..3
        STATION_CHECK           8   is its check right? (7 and 8 go block by block)   place: the block, 0..3
        STATION_VALUE           5   is each soft value 0..7?                          place: the first bad one in the soft page, 0..1889
+                                   is each symbol 0..63?                             place: the first bad one of the symbols, 0..251
        STATION_NO_WORD        10   is there an outer word in reach?                  place: the level, 0..3
+       STATION_ROW            14   is each row of symbols a word of its outer code?  place: the lowest level whose row is none, 0..3
 
    The place is 0 where none is named.
 
@@ -27,9 +32,19 @@
    no limit takes STATION_DEFAULT_LIMIT, which was 500 and is 200 now: worn pages take less time, and more of them are refused by 10.
    Whoever counted on 500, as the dump service did, must name it: station_decode_page_limit(soft, soft_len, 500, ...).
 
+   ASK, THEN COMMIT. Decoding writes over its data buffer as soon as there is an answer. A station that has to know the damage before the old record
+   is overwritten asks first: station_ask_page touches no data. It returns what station_decode_page would return, with the same report, and fills in
+   the corrected symbols: four rows of 63, row after row, the row of level 0 first. If the report is good enough, station_commit_page writes the data
+   that the rows hold, and for symbols that are as asking left them these are exactly the bytes that station_decode_page would have written.
+   The buffer of symbols is not a written page, though both have 252 bytes: a written page stands column after column and goes to the flash, the
+   symbols stay in the station's memory.
+   Committing judges each row again, since the buffer may have been altered between, and takes whatever four words it is given, whoever filled them:
+   it does not know which page was asked about. A row with 1 to 30, 12, 6 or 4 altered symbols (level 0 to 3) is always refused by 14; a row written
+   over at random is taken once in 2^180, 2^72, 2^36 or 2^24. So keep the buffer as safe as the data.
+
    THREADS. The calls have no state and allocate nothing; they may run at the same time on different buffers.
 
-   STACK. As measured on x86-64, page decoding takes some 27 KB and the others up to 4 KB.
+   STACK. As measured on x86-64, page decoding and asking take some 27 KB and the others up to 4 KB.
 
    The archive is libstation.a, made by `rt staticlib station`. It needs memcpy and memset of the C library, and nothing else. */
 #ifndef STATION_H
@@ -49,6 +64,7 @@ enum {
     STATION_SOFT_LEN = 1890,
     STATION_DUMP_LEN = 2048,
     STATION_REPORT_LEN = 78,
+    STATION_SYMBOLS_LEN = 252,
     STATION_LEVELS = 4,
     STATION_COLUMNS = 63,
     STATION_DEFAULT_LIMIT = 200,
@@ -64,7 +80,8 @@ enum {
     STATION_VALUE = 5,
     STATION_FIXED_BYTES = 7,
     STATION_CHECK = 8,
-    STATION_NO_WORD = 10
+    STATION_NO_WORD = 10,
+    STATION_ROW = 14
 };
 
 /* Codes STATION_DATA_LEN bytes of data as a written page of STATION_PAGE_LEN bytes: four bytes a column, 30 bits from the top and two zeros.
@@ -82,6 +99,16 @@ uint64_t station_decode_page_limit(const uint8_t *soft, size_t soft_len, uint64_
    take ten times as many steps as the first. Without it the promise of fewer than one bad page in 10^16 ends at a raw bit error rate of
    0.0013 %, with it at 0.032 %, and with STATION_LARGEST_LIMIT from the start at 0.225 %, on the channel of docs/AGING.md. */
 uint64_t station_decode_page(const uint8_t *soft, size_t soft_len, uint8_t *data, size_t data_len, uint8_t *report, size_t report_len);
+
+/* Asks what station_decode_page_limit would give for the soft page: returns what it would, with the report that it would write, and in place of the
+   data gives STATION_SYMBOLS_LEN corrected symbols for station_commit_page. Refused by 1, 2, 4, 5 and 10. */
+uint64_t station_ask_page_limit(const uint8_t *soft, size_t soft_len, uint64_t limit, uint8_t *symbols, size_t symbols_len, uint8_t *report, size_t report_len);
+
+/* The same with STATION_DEFAULT_LIMIT. Refused by 1, 2, 5 and 10. */
+uint64_t station_ask_page(const uint8_t *soft, size_t soft_len, uint8_t *symbols, size_t symbols_len, uint8_t *report, size_t report_len);
+
+/* Writes the STATION_DATA_LEN bytes of data that the four rows of STATION_SYMBOLS_LEN symbols hold. Refused by 1, 2, 5 and 14. */
+uint64_t station_commit_page(const uint8_t *symbols, size_t symbols_len, uint8_t *data, size_t data_len);
 
 /* Reads the soft page of STATION_SOFT_LEN values out of a dump of STATION_DUMP_LEN bytes, four blocks of 512. Refused by 1, 2, 7, 8 and 5. */
 uint64_t station_read_dump(const uint8_t *dump, size_t dump_len, uint8_t *soft, size_t soft_len);

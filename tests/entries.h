@@ -13,7 +13,7 @@ typedef struct { uint64_t number, place, word, count; int16_t low; } found;
 /* What a call that fills a buffer tells. */
 typedef struct { uint64_t number, place; } filled;
 
-/* What page decoding tells: of each level the totals and the marks, column j at bit j; and the low point. */
+/* What page decoding and asking tell: of each level the totals and the marks, column j at bit j; and the low point. */
 typedef struct { uint64_t number, place, steps; uint8_t changed[4], erased[4]; uint64_t changed_marks[4], erased_marks[4]; int16_t low; } paged;
 
 /* A part of the caller's own bytes. */
@@ -29,6 +29,9 @@ filled entry_decode_row(uint64_t level, const uint8_t *symbols, size_t count, co
 filled entry_encode_page(const uint8_t *data, size_t count, uint8_t *out, size_t room);
 paged entry_decode_page(const uint8_t *soft, size_t count, uint64_t limit, uint8_t *data, size_t room);
 paged entry_decode_page_whole(const uint8_t *soft, size_t count, uint64_t limit, uint8_t *data, size_t room);
+paged entry_ask_page(const uint8_t *soft, size_t count, uint64_t limit, uint8_t *symbols, size_t room);
+paged entry_ask_page_whole(const uint8_t *soft, size_t count, uint64_t limit, uint8_t *symbols, size_t room);
+filled entry_commit_page(const uint8_t *symbols, size_t count, uint8_t *data, size_t room);
 void entry_column_of(const uint8_t *page, size_t count, size_t column, part *out);
 filled entry_write_dump(const uint8_t *soft, size_t count, uint8_t *out, size_t room);
 filled entry_read_dump(const uint8_t *dump, size_t count, uint8_t *out, size_t room);

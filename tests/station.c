@@ -1,4 +1,4 @@
-/* Calls the station's entries as a C program does: every length, NULL with length 0, limits, bad values, late refusals, pages whose changed and erased columns are known, and the stored pages
+/* Calls the station's entries as a C program does: every length, NULL with length 0, limits, bad values, late refusals, altered rows, pages whose changed and erased columns are known, and the stored pages
    and dumps of a vector folder (default tests/vectors).
    A refused call may change no byte of any buffer or of the bytes around it. Prints `N checked, M differ`; fails if one differs. */
 #include "../c/station.h"
@@ -42,7 +42,7 @@ static int holds(const buffer *b, const uint8_t *expected, size_t known) {
 
 static int is(uint64_t result, unsigned number, uint64_t place) { return station_number(result) == number && station_place(result) == place; }
 
-static buffer in, out, report;
+static buffer in, out, report, symbols;
 
 static void encode(const char *what, const uint8_t *data, size_t data_len, size_t page_len, unsigned number, const uint8_t *page) {
     lend(&in, data, STATION_DATA_LEN, data_len);
@@ -77,8 +77,31 @@ static int reported(const buffer *b, const answer *told) {
     return holds(b, expected, told->marked ? STATION_REPORT_LEN : TOTALS);
 }
 
-/* With the default limit both entries are called, and are to do the same. */
+/* Commits symbols: the data, or a refusal. */
+static void commit(const char *what, const uint8_t *rows, size_t symbols_len, size_t data_len, unsigned number, uint64_t place, const uint8_t *data) {
+    lend(&in, rows, STATION_SYMBOLS_LEN, symbols_len);
+    lend(&out, NULL, 0, data_len);
+    uint64_t r = station_commit_page(bytes(&in), in.len, bytes(&out), out.len);
+    check(is(r, number, place) && kept(&in) && (data ? holds(&out, data, out.len) : kept(&out)), what, r);
+}
+
+/* Asks: what an answer fills in is committed, and is to be the data. With the default limit both entries are called, and are to do the same. */
+static void ask(const char *what, const uint8_t *soft, size_t soft_len, uint64_t limit, size_t symbols_len, size_t report_len, unsigned number, uint64_t place, const answer *told) {
+    for (int named = limit != STATION_DEFAULT_LIMIT; named < 2; named++) {
+        lend(&in, soft, STATION_SOFT_LEN, soft_len);
+        lend(&symbols, NULL, 0, symbols_len);
+        lend(&report, NULL, 0, report_len);
+        uint64_t r = named ? station_ask_page_limit(bytes(&in), in.len, limit, bytes(&symbols), symbols.len, bytes(&report), report.len)
+                           : station_ask_page(bytes(&in), in.len, bytes(&symbols), symbols.len, bytes(&report), report.len);
+        int left = told ? holds(&symbols, bytes(&symbols), symbols.len) && reported(&report, told) : kept(&symbols) && kept(&report);
+        check(is(r, number, place) && kept(&in) && left, what, r);
+        if (told) commit(what, bytes(&symbols), STATION_SYMBOLS_LEN, STATION_DATA_LEN, STATION_OK, 0, told->data);
+    }
+}
+
+/* Asks where the data have their length, then decodes. With the default limit both entries are called, and are to do the same. */
 static void decode(const char *what, const uint8_t *soft, size_t soft_len, uint64_t limit, size_t data_len, size_t report_len, unsigned number, uint64_t place, const answer *told) {
+    if (data_len == STATION_DATA_LEN) ask(what, soft, soft_len, limit, STATION_SYMBOLS_LEN, report_len, number, place, told);
     for (int named = limit != STATION_DEFAULT_LIMIT; named < 2; named++) {
         lend(&in, soft, STATION_SOFT_LEN, soft_len);
         lend(&out, NULL, 0, data_len);
@@ -103,7 +126,7 @@ static void lengths(void) {
     const uint64_t limits[] = {STATION_DEFAULT_LIMIT, 0};
     memset(bad, 8, sizeof bad);
     for (int k = 0; k < WRONG; k++) {
-        size_t data = wrong(STATION_DATA_LEN, k), page = wrong(STATION_PAGE_LEN, k), soft = wrong(STATION_SOFT_LEN, k), dump = wrong(STATION_DUMP_LEN, k), told = wrong(STATION_REPORT_LEN, k);
+        size_t data = wrong(STATION_DATA_LEN, k), page = wrong(STATION_PAGE_LEN, k), rows = wrong(STATION_SYMBOLS_LEN, k), soft = wrong(STATION_SOFT_LEN, k), dump = wrong(STATION_DUMP_LEN, k), told = wrong(STATION_REPORT_LEN, k);
         encode("encode, data length", bad, data, STATION_PAGE_LEN, STATION_INPUT_LENGTH, NULL);
         encode("encode, page length", bad, STATION_DATA_LEN, page, STATION_OUTPUT_LENGTH, NULL);
         encode("encode, both lengths", bad, data, page, STATION_INPUT_LENGTH, NULL);
@@ -115,7 +138,12 @@ static void lengths(void) {
             decode("decode, data length", bad, STATION_SOFT_LEN, limits[l], data, STATION_REPORT_LEN, STATION_OUTPUT_LENGTH, 0, NULL);
             decode("decode, report length", bad, STATION_SOFT_LEN, limits[l], STATION_DATA_LEN, told, STATION_OUTPUT_LENGTH, 0, NULL);
             decode("decode, all lengths", bad, soft, limits[l], data, told, STATION_INPUT_LENGTH, 0, NULL);
+            ask("ask, symbols length", bad, STATION_SOFT_LEN, limits[l], rows, STATION_REPORT_LEN, STATION_OUTPUT_LENGTH, 0, NULL);
+            ask("ask, all lengths", bad, soft, limits[l], rows, told, STATION_INPUT_LENGTH, 0, NULL);
         }
+        commit("commit, symbols length", bad, rows, STATION_DATA_LEN, STATION_INPUT_LENGTH, 0, NULL);
+        commit("commit, data length", bad, STATION_SYMBOLS_LEN, data, STATION_OUTPUT_LENGTH, 0, NULL);
+        commit("commit, both lengths", bad, rows, data, STATION_INPUT_LENGTH, 0, NULL);
     }
     decode("decode, a report without marks", bad, STATION_SOFT_LEN, STATION_DEFAULT_LIMIT, STATION_DATA_LEN, TOTALS, STATION_OUTPUT_LENGTH, 0, NULL);
     decode("decode, a report without low point", bad, STATION_SOFT_LEN, STATION_DEFAULT_LIMIT, STATION_DATA_LEN, LOW_AT, STATION_OUTPUT_LENGTH, 0, NULL);
@@ -129,6 +157,24 @@ static void soft_values(void) {
         soft[STATION_SOFT_LEN - 1] = 255;
         soft[at[i]] = 8;
         decode("decode, soft value", soft, sizeof soft, STATION_DEFAULT_LIMIT, STATION_DATA_LEN, STATION_REPORT_LEN, STATION_VALUE, at[i], NULL);
+    }
+}
+
+/* Symbols of the all-zero page, altered: the first that is above 63 is the place of 5, whatever the rows are; then the lowest row that is no word is that of 14. The word
+   of ones at every place of a row is a word of every level, and its data come out. */
+static void rows(void) {
+    static const int at[STATION_LEVELS] = {0, 33, 62, 7}, ends[STATION_LEVELS + 1] = {0, 33, 84, 141, 200};
+    uint8_t page[STATION_SYMBOLS_LEN] = {0};
+    for (int i = STATION_LEVELS; i-- > 0;) {
+        uint8_t data[STATION_DATA_LEN] = {0}, word[STATION_SYMBOLS_LEN] = {0};
+        page[STATION_COLUMNS * i + at[i]] = (uint8_t)(1 + i);
+        commit("commit, an altered symbol", page, sizeof page, STATION_DATA_LEN, STATION_ROW, (uint64_t)i, NULL);
+        page[STATION_SYMBOLS_LEN - 1] = 64;
+        commit("commit, a symbol above 63 in row 3", page, sizeof page, STATION_DATA_LEN, STATION_VALUE, STATION_SYMBOLS_LEN - 1, NULL);
+        page[STATION_SYMBOLS_LEN - 1] = 0;
+        memset(word + STATION_COLUMNS * i, 1, STATION_COLUMNS);
+        for (int s = ends[i]; s < ends[i + 1]; s++) data[(6 * s + 5) / 8] |= (uint8_t)(0x80 >> (6 * s + 5) % 8);
+        commit("commit, another word", word, sizeof word, STATION_DATA_LEN, STATION_OK, 0, data);
     }
 }
 
@@ -338,6 +384,7 @@ int main(int argc, char **argv) {
     const char *folder = argc > 1 ? argv[1] : "tests/vectors";
     lengths();
     soft_values();
+    rows();
     limits();
     dumps();
     known_columns(STATION_DEFAULT_LIMIT);

@@ -8,7 +8,7 @@
 #include <stdlib.h>
 #include <string.h>
 
-enum { LINE = 8192, FIELDS = 32, BITS = 30, ROW = 63, SOFT = 1890, DUMP = 2048, DATA = 150, WRITTEN = 252 };
+enum { LINE = 8192, FIELDS = 32, BITS = 30, ROW = 63, SOFT = 1890, DUMP = 2048, DATA = 150, WRITTEN = 252, SYMBOLS = 252 };
 
 typedef struct { char *field[FIELDS]; int count; } record;
 typedef struct { unsigned long checked, differ, left; } tally;
@@ -137,6 +137,10 @@ static paged decoded(const char *mode, const uint8_t *soft, size_t n, uint64_t l
     return mode[0] == 'w' ? entry_decode_page_whole(soft, n, limit, data, room) : entry_decode_page(soft, n, limit, data, room);
 }
 
+static paged asked(const char *mode, const uint8_t *soft, size_t n, uint64_t limit, uint8_t *symbols, size_t room) {
+    return mode[0] == 'w' ? entry_ask_page_whole(soft, n, limit, symbols, room) : entry_ask_page(soft, n, limit, symbols, room);
+}
+
 /* pages.txt: a record is its lines page, data, written, soft, then expect lines. What the expect lines need is kept from the lines before. */
 static uint8_t page_data[DATA], page_soft[SOFT];
 
@@ -183,6 +187,40 @@ static verdict both_decoders(const uint8_t *soft) {
     return v;
 }
 
+/* Row i of symbols, coded anew from its data. */
+static int row_is_word(const uint8_t *symbols, uint64_t i) {
+    static const size_t data[] = {33, 51, 57, 59};
+    uint8_t row[ROW];
+    filled f = entry_encode_row(i, symbols + ROW * i, data[i], row, ROW);
+    return f.number == 0 && !memcmp(row, symbols + ROW * i, ROW);
+}
+
+/* A commit that is refused, and changes nothing. */
+static int commit_refuses(const uint8_t *symbols, size_t n, size_t room, uint64_t number, uint64_t place) {
+    uint8_t out[2 * DATA];
+    memset(out, UNTOUCHED, sizeof out);
+    filled f = entry_commit_page(symbols, n, out, room);
+    return f.number == number && f.place == place && untouched(out, sizeof out);
+}
+
+/* Asking tells what decoding told, p with the data. An answer's symbols are four words, and committing them writes these data; with a symbol altered in one or more
+   rows the lowest of them is refused. A refusal changes no symbol. */
+static int asks_alike(const char *mode, uint64_t limit, const paged *p, const uint8_t *data) {
+    uint8_t symbols[SYMBOLS + 1], out[DATA];
+    memset(symbols, UNTOUCHED, sizeof symbols);
+    paged a = asked(mode, page_soft, SOFT, limit, symbols, SYMBOLS);
+    if (!same_report(&a, p) || symbols[SYMBOLS] != UNTOUCHED) return 0;
+    if (a.number) return untouched(symbols, sizeof symbols);
+    filled f = entry_commit_page(symbols, SYMBOLS, out, DATA);
+    if (f.number || f.place || memcmp(out, data, DATA)) return 0;
+    for (uint64_t i = 4; i-- > 0;) {
+        if (!row_is_word(symbols, i)) return 0;
+        symbols[ROW * i + (limit + 17 * i) % ROW] ^= (uint8_t)(1 + limit % 63);
+        if (!commit_refuses(symbols, SYMBOLS, DATA, 14, i)) return 0;
+    }
+    return 1;
+}
+
 /* The data of an expect line: `same` for those of the record, else in hexadecimal. */
 static int data_of_line(const uint8_t *out, const char *text) {
     uint8_t expected[WRITTEN];
@@ -226,10 +264,29 @@ static verdict report_line(const record *r) {
     if (strcmp(r->field[1], "whole") && strcmp(r->field[1], "super")) return LEFT;
     memset(out, UNTOUCHED, sizeof out);
     paged p = decoded(r->field[1], page_soft, SOFT, decimal(r->field[2]), out, DATA);
-    if (!report_right(&p)) return DIFFERS;
+    if (!report_right(&p) || !asks_alike(r->field[1], decimal(r->field[2]), &p, out)) return DIFFERS;
     if (!strcmp(r->field[4], "refused") && r->count == 7) return refuses(p.number, p.place, r) == SAME && untouched(out, sizeof out) ? SAME : DIFFERS;
     if (strcmp(r->field[4], "ok") || strcmp(r->field[6], "low") || r->count != 25) return DIFFERS;
     return p.number == 0 && p.steps == decimal(r->field[5]) && p.low == atoi(r->field[7]) && level_marks(&p, r->field + 8) && data_of_line(out, r->field[24]) ? SAME : DIFFERS;
+}
+
+/* commit.txt: what is written encodes to the same rows. */
+static verdict commit_line(const record *r) {
+    uint8_t symbols[LINE], data[DATA], out[2 * DATA], page[WRITTEN];
+    if (strcmp(r->field[0], "commit") || r->count < 4) return DIFFERS;
+    size_t n = bytes_of(r->field[1], symbols, sizeof symbols);
+    if (!strcmp(r->field[2], "refused") && r->count == 5) return commit_refuses(symbols, n, DATA, decimal(r->field[3]), decimal(r->field[4])) ? SAME : DIFFERS;
+    if (strcmp(r->field[2], "ok") || n != SYMBOLS || bytes_of(r->field[3], data, DATA) != DATA) return DIFFERS;
+    memset(out, UNTOUCHED, sizeof out);
+    filled f = entry_commit_page(symbols, n, out, DATA);
+    if (f.number || f.place || memcmp(out, data, DATA) || !untouched(out + DATA, DATA)) return DIFFERS;
+    if (entry_encode_page(out, DATA, page, WRITTEN).number) return DIFFERS;
+    for (int j = 0; j < ROW; j++) {
+        const uint8_t column[] = {symbols[j], symbols[ROW + j], symbols[2 * ROW + j], symbols[3 * ROW + j]};
+        uint64_t word = entry_encode_column(column, 4).value << 2;
+        for (int b = 0; b < 4; b++) if (page[4 * j + b] != (uint8_t)(word >> (24 - 8 * b))) return DIFFERS;
+    }
+    return SAME;
 }
 
 /* The input of a dump or page line: all zero, or the dump of the all-zero soft page, cut or lengthened by zeros, with the line's edits. */
@@ -349,7 +406,7 @@ static void check_dump(const char *folder, const char *name) {
 }
 
 static const struct { const char *name; verdict (*line_of)(const record *); } texts[] = {
-    {"code.txt", code_line}, {"columns.txt", column_line}, {"search.txt", low_line}, {"lows.txt", low_line}, {"outer.txt", outer_line}, {"pages.txt", page_line}, {"reports.txt", report_line}, {"refusals.txt", refusal_line},
+    {"code.txt", code_line}, {"columns.txt", column_line}, {"search.txt", low_line}, {"lows.txt", low_line}, {"outer.txt", outer_line}, {"pages.txt", page_line}, {"reports.txt", report_line}, {"commit.txt", commit_line}, {"refusals.txt", refusal_line},
 };
 enum { TEXTS = sizeof texts / sizeof texts[0] };
 
@@ -416,6 +473,60 @@ static tally check_trips(void) {
     return t;
 }
 
+/* An asking that is refused, and changes nothing. */
+static int ask_refuses(const char *mode, const uint8_t *soft, size_t n, uint64_t limit, size_t room, uint64_t number, uint64_t place) {
+    uint8_t symbols[2 * SYMBOLS];
+    memset(symbols, UNTOUCHED, sizeof symbols);
+    const paged a = asked(mode, soft, n, limit, symbols, room), refusal = {.number = number, .place = place};
+    return same_report(&a, &refusal) && untouched(symbols, sizeof symbols);
+}
+
+/* The questions of asking and committing, in their order, and what committing takes. */
+static tally check_commits(void) {
+    static const char *const modes[] = {"super", "whole"};
+    static const int ends[] = {0, 6 * 33, 6 * 84, 6 * 141, 6 * 200};
+    static uint8_t symbols[2][SYMBOLS + 1], data[2][DATA], page[WRITTEN], soft[SOFT + 1], out[DATA];
+    tally t = {0, 0, 0};
+    uint64_t state = 20261116;
+    for (int k = 0; k < 2; k++, t.checked++) {
+        for (int i = 0; i < DATA; i++) data[k][i] = (uint8_t)((state = state * 6364136223846793005u + 1442695040888963407u) >> 56);
+        entry_encode_page(data[k], DATA, page, WRITTEN);
+        for (int j = 0; j < SOFT; j++) soft[j] = page[j / 30 * 4 + j % 30 / 8] >> (7 - j % 30 % 8) & 1 ? 7 : 0;
+        t.differ += entry_ask_page(soft, SOFT, 200, symbols[k], SYMBOLS).number != 0;
+    }
+    /* lengths: the input's before the output's, and both before the limit and the values, or the symbols and the rows, which are bad here */
+    soft[977] = 8;
+    symbols[0][3 * ROW + 20] ^= 64;
+    symbols[0][5] ^= 1;
+    for (int n = -1; n <= 1; n++) {
+        for (int room = -1; room <= 1; room++) {
+            for (int k = 0; k < 2; k++, t.checked++) t.differ += !ask_refuses(modes[k], soft, (size_t)(SOFT + n), 0, (size_t)(SYMBOLS + room), n ? 1 : room ? 2 : 4, 0);
+            t.differ += !commit_refuses(symbols[0], (size_t)(SYMBOLS + n), (size_t)(DATA + room), n ? 1 : room ? 2 : 5, n || room ? 0 : 3 * ROW + 20);
+            t.checked++;
+        }
+    }
+    /* the limit, then the values; a symbol of 64 in row 3, then row 0 that is no word */
+    for (int k = 0; k < 2; k++, t.checked += 2) {
+        t.differ += !ask_refuses(modes[k], soft, SOFT, 2001, SYMBOLS, 4, 0);
+        t.differ += !ask_refuses(modes[k], soft, SOFT, 2000, SYMBOLS, 5, 977);
+    }
+    symbols[0][3 * ROW + 20] ^= 64;
+    t.differ += !commit_refuses(symbols[0], SYMBOLS, DATA, 14, 0);
+    t.checked++;
+    symbols[0][5] ^= 1;
+    /* a row exchanged with another word is taken, and the data of the other word come out in its place */
+    for (int i = 0; i < 4; i++, t.checked++) {
+        uint8_t mixed[SYMBOLS];
+        memcpy(mixed, symbols[0], SYMBOLS);
+        memcpy(mixed + ROW * i, symbols[1] + ROW * i, ROW);
+        int right = entry_commit_page(mixed, SYMBOLS, out, DATA).number == 0;
+        for (int b = 0; b < 8 * DATA; b++) right &= !((out[b / 8] ^ data[b >= ends[i] && b < ends[i + 1]][b / 8]) >> (7 - b % 8) & 1);
+        t.differ += !right;
+    }
+    printf("asking and committing: %lu checked, %lu differ\n", t.checked, t.differ);
+    return t;
+}
+
 static part looked_up(const uint8_t *page, size_t count, size_t column) {
     part p = {page, 0};
     entry_column_of(page, count, column, &p);
@@ -443,19 +554,20 @@ static tally check_look_ups(void) {
 
 int main(int argc, char **argv) {
     const char *folder = argc > 1 ? argv[1] : "tests/vectors";
-    tally parts[TEXTS + 3];
+    tally parts[TEXTS + 4];
     for (int i = 0; i < TEXTS; i++) parts[i] = check_file(folder, texts[i].name, texts[i].line_of);
     count_left(folder, "");
     count_left(folder, "long/");
     parts[TEXTS] = check_dumps(folder);
     parts[TEXTS + 1] = check_trips();
-    parts[TEXTS + 2] = check_look_ups();
+    parts[TEXTS + 2] = check_commits();
+    parts[TEXTS + 3] = check_look_ups();
     unsigned long checked = 0, differ = 0;
     if (pages_compared) {
         printf("pages and limits outside the premise where the two decoders differ: %lu\n", pages_apart);
         differ += !pages_apart;
     }
-    for (int i = 0; i < TEXTS + 3; i++) {
+    for (int i = 0; i < TEXTS + 4; i++) {
         checked += parts[i].checked;
         differ += parts[i].differ;
     }

@@ -1,13 +1,14 @@
 // Data as bytes and as symbols: three bytes to four symbols, in groups that run on across the borders of rows.
-ghost use mathlib.Core.List.{[]};
 ghost use mathlib.Core.Path.{_≡_};
-ghost use Prim.Native.Nat.{ℕ, _+_, _<_, _≤_};
-ghost use lib.ListN.{length, getD};
+ghost use Prim.Native.Nat.{_+_, _≤_};
+ghost use lib.ListN.{length};
 ghost use lib.Seq.{paste};
 ghost use Rattle.reedsolomon.specs.Search.{WordOf};
 ghost use Rattle.concatenated.specs.Format.{shortPage};
 ghost use Rattle.concatenated.specs.Data.{dataSymbols, dataBytes};
 ghost use Rattle.concatenated.specs.Written.{rowsData};
+ghost use Rattle.concatenated.specs.Symbols.{rowAfterRow, rowsIn};
+ghost use Rattle.concatenated.specs.Arrays.{Rows};
 
 // The symbols of the data.
 pub fn symbols_of(data: &[u8], out: &mut [u8; 200])
@@ -50,8 +51,8 @@ pub fn bytes_of(symbols: &[u8; 200], out: &mut [u8])
 }
 
 // Copies the first n symbols of a row to the places from `at` on.
-fn put(row: &[u8; 63], n: usize, at: usize, out: &mut [u8; 200])
-    requires { ⌜ (length (now row) ≡ 63) × (length (now out) ≡ 200) × (n ≤ 63) × (at + n ≤ 200) ⌝ }
+fn put(row: &[u8], n: usize, at: usize, out: &mut [u8])
+    requires { ⌜ (n ≤ length (now row)) × (at + n ≤ length (now out)) ⌝ }
     ensures { λ r. ⌜ now (out .exit) ≡ paste (now (out .entry)) at (now (row .entry)) n ⌝ }
 {
     let mut k: usize = 0;
@@ -61,17 +62,31 @@ fn put(row: &[u8; 63], n: usize, at: usize, out: &mut [u8; 200])
     }
 }
 
-// The data symbols in front of the rows.
-pub fn rows_data(rows: &[[u8; 63]; 4], out: &mut [u8; 200])
-    requires { ⌜ (length (now rows) ≡ 4) × (length (now out) ≡ 200) × ((i : ℕ) → i < 4 → length (getD (now rows) i []) ≡ 63) ⌝ }
-    ensures { λ r. ⌜ now (out .exit) ≡ rowsData shortPage (now (rows .entry)) 4 ⌝ }
+// The rows, one behind the other.
+pub fn row_after_row(rows: &[[u8; 63]; 4], out: &mut [u8])
+    requires { ⌜ Rows (now rows) × (length (now out) ≡ 252) ⌝ }
+    ensures { λ r. ⌜ now (out .exit) ≡ rowAfterRow (now (rows .entry)) ⌝ }
+{
+    let mut level: usize = 0;
+    while level < 4 {
+        let row = rows[level];
+        put(&row, 63, level * 63, &mut *out);
+        level += 1;
+    }
+}
+
+// The data symbols in front of the rows in a buffer.
+pub fn rows_data(symbols: &[u8], out: &mut [u8])
+    requires { ⌜ WordOf 64 252 (now symbols) × (length (now out) ≡ 200) ⌝ }
+    ensures { λ r. ⌜ now (out .exit) ≡ rowsData shortPage (rowsIn shortPage (now (symbols .entry))) 4 ⌝ }
 {
     let mut at: usize = 0;
     let mut level: usize = 0;
     while level < 4 {
-        let row = rows[level];
+        let from = level * 63;
+        let to = from + 63;
         let n = 63 - outer::roots(level);
-        put(&row, n, at, &mut *out);
+        put(&symbols[from..to], n, at, &mut *out);
         at += n;
         level += 1;
     }

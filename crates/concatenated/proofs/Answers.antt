@@ -10,13 +10,14 @@ use native.Mathlib.Omega.{arith}
 use lib.ListN.{length, length-map, length-append, getD, List·getD-append}
 use lib.Seq.{getD-at}
 use Rattle.column.specs.Shape.{Shape, levels}
+use Rattle.column.proofs.Tabulated.{map-at}
 use Rattle.reedsolomon.specs.Words.{count, errors, InReach}
 use Rattle.reedsolomon.specs.Search.{OuterAnswer, Found, NoneInReach}
 use Rattle.reedsolomon.specs.Row
 use Rattle.concatenated.specs.Lists.{total}
 use Rattle.concatenated.specs.Format.{Format}
 use Rattle.concatenated.specs.Outer.{RowDecoder, RowEncoder, isIn, OuterLaws}
-use Rattle.concatenated.specs.Decode.{Reader, mark, marks, symbol, symbols, rowOff, Level, level, State, going, stopped, answered, refused, decodedRow, settle, onward, run, Reaches, outcome, decoded}
+use Rattle.concatenated.specs.Decode.{Reader, mark, marks, symbol, symbols, rowOff, Level, level, State, going, stopped, answered, refused, decodedRow, settle, onward, run, Reaches, outcome, decoded, rows}
 use Rattle.concatenated.proofs.Counting.{changed-total-is-e, erased-total-is-s}
 use Rattle.concatenated.proofs.Columns.{row-off-length}
 use Rattle.concatenated.proofs.Entries.{changed-length, erased-is-not-changed}
@@ -32,6 +33,10 @@ going-inj cs ds ls ks m n e = (cc, cc)
 
 answered-inj : (ls ks : List Level) (m n : ℕ) → answered ls m ≡ answered ks n → ls ≡ ks
 answered-inj ls ks m n e = cc
+
+-- the level that none is
+pub noLevel : Level
+noLevel = record { symbols = []; changed = []; erased = []; lows = [] }
 
 -- l is what level i gave, in the decoder's run
 pub record LevelOf (S : Shape) (outer : RowDecoder) (read : Reader) (page : List (List ℕ)) (i : ℕ) (l : Level) : Type 0 where
@@ -186,3 +191,15 @@ module _ (P : Format) (outer : RowDecoder) (encoded : RowEncoder) (Codeword : �
 
   pub sets-of-levels : (ls : List Level) (n : ℕ) → decoded S outer read page ≡ answered ls n → (i : ℕ) → i < levels S → (d : Level) → LevelSets (getD ls i d)
   sets-of-levels ls n e i h d = level-has-sets i (getD ls i d) h (answer-is-of-levels S outer read page ls n e .each i h d)
+
+  -- the rows of an answered page: one a level, each a codeword
+  module _ (ls : List Level) (n : ℕ) (e : decoded S outer read page ≡ answered ls n) where
+    pub as-many-rows : length (rows ls) ≡ levels S
+    unfolding rows
+    as-many-rows = length-map ls (λ l. l .symbols) ∙ answer-is-of-levels S outer read page ls n e .as-many
+
+    pub rows-are-codewords : (i : ℕ) → i < levels S → Codeword i (getD (rows ls) i [])
+    unfolding rows
+    rows-are-codewords i h =
+        let inside : i < length ls = omega (arith, answer-is-of-levels S outer read page ls n e .as-many, h) in
+        subst⁻¹ (Codeword i) (map-at (λ l. l .symbols) ls i noLevel [] inside) (changed-and-erased-are-e-and-s ls n e i h noLevel .is-codeword)

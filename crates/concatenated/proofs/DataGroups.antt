@@ -1,19 +1,22 @@
 -- The short page's data, group by group and row by row. Assumes nothing.
-use mathlib.Core.List.{List, [], _∷_, _++_}
-use mathlib.Core.Path.{_≡_, refl, sym, ap, ap₂, _∙_}
+use mathlib.Core.List.{List, [], _∷_, _++_, flatMap}
+use mathlib.Core.Path.{_≡_, refl, sym, ap, ap₂, _∙_, subst⁻¹}
 use Prim.Native.Nat.{ℕ, _+_, _-_, _*_, _≤_, _<_}
 use native.Mathlib.Numerals.{add-one}
 use native.Mathlib.Omega.{arith}
-use lib.ListN.{length, getD, take, set}
-use lib.Seq.{paste, length-paste, take-paste}
+use lib.ListN.{length, getD, take, drop, set}
+use lib.Seq.{paste, length-paste, take-paste, take-all, take-suc}
 use Rattle.packing.specs.Packing.{joined, symbolsOf, bytesOf}
 use Rattle.packing.specs.declared.Symbols.{Symbols}
 use Rattle.packing.specs.declared.Bytes.{Bytes}
+use Rattle.reedsolomon.specs.Search.{WordOf}
 use Rattle.concatenated.specs.Format.{shortPage, shortRoots, dataBefore}
 use Rattle.concatenated.specs.Data.{digits, dataSymbols, dataBytes}
 use Rattle.concatenated.specs.Written.{rowsData}
+use Rattle.concatenated.specs.Symbols.{rowAfterRow, rowIn, rowsIn}
 use Rattle.concatenated.proofs.Digits.{group-of-bytes, group-of-symbols}
 use Rattle.concatenated.proofs.RowData.{row-data-within}
+use Rattle.concatenated.proofs.Symbols.{row-after-row-more, row-in-at, row-in-is-a-word}
 use Rattle.concatenated.proofs.Short.{short-page-numbers}
 use Rattle.concatenated.proofs.Filling.{Front}
 use Rattle.concatenated.proofs.Groups.{repacked-at, three-from, four-from, three-more, four-more}
@@ -61,6 +64,24 @@ bytes-more symbols out g b e h f eb =
 pub row-data-within-200 : (i : ℕ) → i < 4 → dataBefore shortPage i + (63 - shortRoots i) ≤ 200
 row-data-within-200 i h = omega (arith, row-data-within shortPage i 4 h, short-page-numbers .5)
 
+-- row i of a buffer, as the code cuts it out
+pub row-cut-out : (symbols : List ℕ) (i from to : ℕ) → i < 4 → from ≡ i * 63 → to ≡ from + 63 → take (to - from) (drop from symbols) ≡ getD (rowsIn shortPage symbols) i []
+unfolding rowIn
+row-cut-out symbols i from to h ef et =
+    let size : to - from ≡ 63 = omega arith in
+    ap₂ (λ (n k : ℕ). take n (drop k symbols)) size ef ∙ sym (row-in-at shortPage symbols i h)
+
+pub cut-out-row-is-a-word : (symbols : List ℕ) → WordOf 64 252 symbols → (i from to : ℕ) → i < 4 → from ≡ i * 63 → to ≡ from + 63 → WordOf 64 63 (take (to - from) (drop from symbols))
+cut-out-row-is-a-word symbols word i from to h ef et = subst⁻¹ (WordOf 64 63) (row-cut-out symbols i from to h ef et) (row-in-is-a-word shortPage 64 symbols word i h)
+
+-- n symbols of a row put behind what stands in front
+row-put : (out after row front : List ℕ) (at n room : ℕ) → length out ≡ room → at + n ≤ room → n ≤ length row → take at out ≡ front → after ≡ paste out at row n
+    → (length after ≡ room) × (take (at + n) after ≡ front ++ take n row)
+row-put out after row front at n room long fits enough is e = (
+  ap length e ∙ length-paste out at row n (omega (arith, long, fits)) enough ∙ long,
+  ap (take (at + n)) e ∙ take-paste out at row n (omega (arith, long, fits)) enough ∙ ap (λ (x : List ℕ). x ++ take n row) is,
+)
+
 -- the data in front of the rows below level i are at the front
 pub record RowsPut (rows : List (List ℕ)) (out : List ℕ) (at i : ℕ) : Type 0 where
   pub within : i ≤ 4
@@ -72,16 +93,41 @@ pub no-row-put : (rows : List (List ℕ)) (out : List ℕ) → length out ≡ 20
 unfolding dataBefore rowsData
 no-row-put rows out e = record { within = omega arith; long-out = e; place = refl; so-far = refl }
 
-pub one-more-row-put : (rows : List (List ℕ)) (out after : List ℕ) (at i n : ℕ) → RowsPut rows out at i → i < 4 → length (getD rows i []) ≡ 63 → n ≡ 63 - shortRoots i
-    → after ≡ paste out at (getD rows i []) n → RowsPut rows after (at + n) (i + 1)
+pub one-more-row-put : (rows : List (List ℕ)) (row out after : List ℕ) (at i n : ℕ) → RowsPut rows out at i → i < 4 → row ≡ getD rows i [] → length row ≡ 63 → n ≡ 63 - shortRoots i
+    → after ≡ paste out at row n → RowsPut rows after (at + n) (i + 1)
 unfolding dataBefore rowsData
-one-more-row-put rows out after at i n f h long en e =
-    let fits : at + n ≤ 200 = omega (arith, row-data-within-200 i h, f .place, en) in
+one-more-row-put rows row out after at i n f h is long en e =
+    let put = row-put out after row (rowsData shortPage rows i) at n 200 (f .long-out) (omega (arith, row-data-within-200 i h, f .place, en)) (omega (arith, long, en)) (f .so-far) e in
     record {
       within = omega arith;
-      long-out = ap length e ∙ length-paste out at (getD rows i []) n (omega (arith, f .long-out, fits)) (omega (arith, long, en)) ∙ f .long-out;
+      long-out = put .0;
       place = ap₂ (λ (x y : ℕ). x + y) (f .place) en ∙ ap (dataBefore shortPage) (sym (add-one i));
-      so-far =
-          ap (take (at + n)) e ∙ take-paste out at (getD rows i []) n (omega (arith, f .long-out, fits)) (omega (arith, long, en))
-          ∙ ap₂ (λ (x : List ℕ) (y : ℕ). x ++ take y (getD rows i [])) (f .so-far) en ∙ ap (rowsData shortPage rows) (sym (add-one i));
+      so-far = put .1 ∙ ap₂ (λ (y : ℕ) (r : List ℕ). rowsData shortPage rows i ++ take y r) en is ∙ ap (rowsData shortPage rows) (sym (add-one i));
     }
+
+-- the rows below level i stand in a buffer, one behind the other
+pub record RowsBehind (rows : List (List ℕ)) (out : List ℕ) (i : ℕ) : Type 0 where
+  pub within : i ≤ 4
+  pub long-out : length out ≡ 252
+  pub so-far : take (i * 63) out ≡ rowAfterRow (take i rows)
+
+pub no-row-behind : (rows : List (List ℕ)) (out : List ℕ) → length out ≡ 252 → RowsBehind rows out 0
+unfolding rowAfterRow flatMap
+no-row-behind rows out e = record { within = omega arith; long-out = e; so-far = refl }
+
+pub one-more-row-behind : (rows : List (List ℕ)) (out after : List ℕ) (i : ℕ) → RowsBehind rows out i → i < 4 → length rows ≡ 4 → length (getD rows i []) ≡ 63
+    → after ≡ paste out (i * 63) (getD rows i []) 63 → RowsBehind rows after (i + 1)
+one-more-row-behind rows out after i f h four long e =
+    let row = getD rows i [] in
+    let put = row-put out after row (rowAfterRow (take i rows)) (i * 63) 63 252 (f .long-out) (omega arith) (omega (arith, long)) (f .so-far) e in
+    let next : (i + 1) * 63 ≡ i * 63 + 63 = omega arith in
+    record {
+      within = omega arith;
+      long-out = put .0;
+      so-far =
+          ap (λ (k : ℕ). take k after) next ∙ put .1 ∙ ap (λ (r : List ℕ). rowAfterRow (take i rows) ++ r) (take-all 63 row (omega (arith, long)))
+          ∙ sym (row-after-row-more (take i rows) row) ∙ ap rowAfterRow (sym (take-suc rows i [] (omega (arith, four, h)))) ∙ ap (λ (k : ℕ). rowAfterRow (take k rows)) (sym (add-one i));
+    }
+
+pub all-rows-behind : (rows : List (List ℕ)) (out : List ℕ) (i : ℕ) → RowsBehind rows out i → length rows ≡ 4 → 4 ≤ i → out ≡ rowAfterRow rows
+all-rows-behind rows out i f four h = sym (take-all (i * 63) out (omega (arith, f .long-out, h))) ∙ f .so-far ∙ ap rowAfterRow (take-all i rows (omega (arith, four, h)))

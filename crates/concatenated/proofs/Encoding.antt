@@ -1,10 +1,10 @@
 -- The written page: its rows are the codewords with the data in front, its columns the sums of their level words, and re-imaging gives the symbols back. Assumes nothing.
 use mathlib.Core.Path.{_≡_, refl, sym, ap, ap₂, _∙_, subst, subst⁻¹}
-use mathlib.Core.List.{List, [], _∷_, map, flatMap}
-use Prim.Native.Nat.{ℕ, zero, suc, _+_, _-_, _*_, _^_, _≤_, _<_}
+use mathlib.Core.List.{List, [], map}
+use Prim.Native.Nat.{ℕ, zero, suc, _-_, _*_, _^_, _≤_, _<_}
 use native.Mathlib.Nat
 use native.Mathlib.Omega.{arith}
-use lib.ListN.{length, length-map, length-append, getD, take, List·getD-map}
+use lib.ListN.{length, length-map, getD, take, List·getD-map}
 use lib.Seq.{length-take-le, getD-take, ext-getD}
 use Rattle.poly.specs.Polynomial.{add}
 use Rattle.column.specs.Shape.{Shape, levels}
@@ -16,8 +16,9 @@ use Rattle.concatenated.specs.Format.{Format, SoundFormat, symbolValues,
 use Rattle.concatenated.specs.Data.{dataSymbols}
 use Rattle.concatenated.specs.Outer.{RowDecoder, RowEncoder, OuterLaws}
 use Rattle.concatenated.specs.Written.{rowData, writtenRow, writtenRows, columnSymbols, columnsOf, rowAt, writtenSum, columnInBytes, pageInBytes, bytesOfRows}
-use Rattle.concatenated.proofs.Lists.{listed-length, listed-at, all-listed, map-listed, listed-same, all-append}
+use Rattle.concatenated.proofs.Lists.{listed-length, listed-at, all-listed, all-of-each, map-listed, listed-same}
 use Rattle.concatenated.proofs.Digits.{Below, digits-length}
+use Rattle.concatenated.proofs.Groups.{flat-length}
 use Rattle.concatenated.proofs.RowData.{row-data-is-a-word, data-symbols-fill-the-rows, data-symbols-in-range, bytes-of-rows-with-data}
 
 -- ---- rows and columns of a list of rows
@@ -46,22 +47,12 @@ columns-of-length N rs = listed-length (columnSymbols rs) N
 
 -- ---- bytes
 
-flat-length : {A : Type 0} (f : A → List ℕ) (k : ℕ) → ((x : A) → length (f x) ≡ k) → (xs : List A) → length (flatMap f xs) ≡ length xs * k
-unfolding flatMap
-flat-length f k h [] = sym (Nat.zero-mul k)
-flat-length f k h (x ∷ xs) =
-    length-append (f x) (flatMap f xs) ∙ ap₂ _+_ (h x) (flat-length f k h xs) ∙ Nat.add-comm k (length xs * k) ∙ sym (Nat.suc-mul (length xs) k)
-
-flat-below : {A : Type 0} (f : A → List ℕ) (q : ℕ) → ((x : A) → Below q (f x)) → (xs : List A) → Below q (flatMap f xs)
-unfolding flatMap
-flat-below f q h [] = tt
-flat-below f q h (x ∷ xs) = all-append (λ d. d < q) (f x) (flatMap f xs) (h x) (flat-below f q h xs)
-
 -- 01: "A written page is 252 bytes, four a column"
 pub page-in-bytes-length : (P : Format) (rs : List (List ℕ)) → length (pageInBytes P rs) ≡ P .columns * P .columnBytes
 unfolding pageInBytes columnInBytes
 page-in-bytes-length P rs =
-    flat-length (columnInBytes P) (P .columnBytes) (λ x. digits-length 256 (P .columnBytes) (x * 2 ^ (8 * P .columnBytes - P .shape .bits))) (map (columnOf (P .shape)) (columnsOf (P .columns) rs))
+    let columns = map (columnOf (P .shape)) (columnsOf (P .columns) rs) in
+    flat-length (columnInBytes P) (P .columnBytes) columns (all-of-each _ (λ x. digits-length 256 (P .columnBytes) (x * 2 ^ (8 * P .columnBytes - P .shape .bits))) columns)
     ∙ ap (λ (t : ℕ). t * P .columnBytes) (length-map (columnsOf (P .columns) rs) (columnOf (P .shape)) ∙ columns-of-length (P .columns) rs)
 
 -- ---- the rows and columns of written data

@@ -1,14 +1,16 @@
 -- Groups of entries: the groups of packed data and of a written page's bytes, entry by entry, and lists written group by group. Assumes nothing.
-use mathlib.Core.List.{List, [], _∷_, _++_, flatMap}
+use mathlib.Core.List.{List, [], _∷_, _++_, flatMap, append-assoc, append-nil}
 use mathlib.Core.Path.{_≡_, refl, sym, ap, ap₂, _∙_, subst}
 use Prim.Native.Nat.{ℕ, zero, suc, _+_, _*_, _≤_, _<_}
 use native.Mathlib.Nat.{not-suc-le-zero, le-of-suc-le-suc, suc-mul, zero-mul}
 use native.Mathlib.Numerals.{add-one}
 use native.Mathlib.Omega.{arith}
-use lib.ListN.{length, getD, take, drop, set, List·getD-append}
+use lib.ListN.{length, length-append, getD, take, drop, set, List·getD-append}
 use lib.Seq.{drop-cons, drop-drop, getD-append-add}
 use Rattle.packing.specs.Packing.{joined}
+use Rattle.concatenated.specs.Lists.{All}
 use Rattle.concatenated.specs.Data.{digits, repacked}
+use Rattle.concatenated.proofs.Lists.{all-append}
 use Rattle.concatenated.proofs.Digits.{digits-length}
 use Rattle.concatenated.proofs.Filling.{Front, front-more}
 
@@ -37,13 +39,28 @@ repacked-at p a q b (suc n) xs (suc g) k h l =
     ∙ repacked-at p a q b n (drop a xs) g k (le-of-suc-le-suc h) l
     ∙ ap (λ (t : List ℕ). getD (digits q b (joined p 0 (take a t))) k 0) (drop-drop (g * a) a xs ∙ ap (λ (t : ℕ). drop t xs) z)
 
--- entry k of the group of entry g
-pub flat-at : {A : Type 0} (f : A → List ℕ) (b : ℕ) → ((x : A) → length (f x) ≡ b) → (xs : List A) (g k : ℕ) (d : A) → g < length xs → k < b
+-- the groups of a list's entries, one after the other: of one entry more; what holds of all; where each group has b, how many there are, and entry k of the group of entry g
+pub flat-more : {A B : Type 0} (f : A → List B) (xs : List A) (x : A) → flatMap f (xs ++ (x ∷ [])) ≡ flatMap f xs ++ f x
+unfolding flatMap
+flat-more f [] x = append-nil (f x)
+flat-more f (y ∷ xs) x = ap (λ (t : List _). f y ++ t) (flat-more f xs x) ∙ sym (append-assoc (f y) (flatMap f xs) (f x))
+
+pub flat-all : {A B : Type 0} (P : B → Type 0) (f : A → List B) (xs : List A) → All (λ x. All P (f x)) xs → All P (flatMap f xs)
+unfolding flatMap
+flat-all P f [] h = tt
+flat-all P f (x ∷ xs) h = all-append P (f x) (flatMap f xs) (h .0) (flat-all P f xs (h .1))
+
+pub flat-length : {A : Type 0} (f : A → List ℕ) (b : ℕ) (xs : List A) → All (λ x. length (f x) ≡ b) xs → length (flatMap f xs) ≡ length xs * b
+unfolding flatMap
+flat-length f b [] e = sym (zero-mul b)
+flat-length f b (x ∷ xs) e = length-append (f x) (flatMap f xs) ∙ omega (arith, e .0, flat-length f b xs (e .1), suc-mul (length xs) b)
+
+pub flat-at : {A : Type 0} (f : A → List ℕ) (b : ℕ) (xs : List A) → All (λ x. length (f x) ≡ b) xs → (g k : ℕ) (d : A) → g < length xs → k < b
     → getD (flatMap f xs) (g * b + k) 0 ≡ getD (f (getD xs g d)) k 0
 unfolding flatMap
-flat-at f b e [] g k d h l = absurd (not-suc-le-zero h)
-flat-at f b e (x ∷ xs) zero k d h l = sooner (f x) (flatMap f xs) b k 0 (e x) l
-flat-at f b e (x ∷ xs) (suc g) k d h l = later (f x) (flatMap f xs) b g k 0 (e x) ∙ flat-at f b e xs g k d (le-of-suc-le-suc h) l
+flat-at f b [] e g k d h l = absurd (not-suc-le-zero h)
+flat-at f b (x ∷ xs) e zero k d h l = sooner (f x) (flatMap f xs) b k 0 (e .0) l
+flat-at f b (x ∷ xs) e (suc g) k d h l = later (f x) (flatMap f xs) b g k 0 (e .0) ∙ flat-at f b xs (e .1) g k d (le-of-suc-le-suc h) l
 
 -- the entries of a part
 pub three-from : (l : List ℕ) (j : ℕ) → j + 3 ≤ length l → take 3 (drop j l) ≡ getD l j 0 ∷ getD l (j + 1) 0 ∷ getD l (j + 2) 0 ∷ []

@@ -26,3 +26,5 @@ pub mod Lows
 pub mod Zeros
 pub mod ZeroPage
 pub mod Marks
+pub mod Symbols
+pub mod RowsWritten

@@ -2,7 +2,7 @@
 use mathlib.Core.Path.{_≡_, refl, ap, _∙_, subst⁻¹}
 use mathlib.Core.Logic.{inl, inr, ⊎-elim}
 use mathlib.Core.List.{List, [], _∷_, _++_, map}
-use Prim.Native.Nat.{ℕ, zero, suc, _<_}
+use Prim.Native.Nat.{ℕ, zero, suc, _<_, suc-le-suc}
 use native.Mathlib.Nat.{eq-or-lt-of-le, suc-inj, le-of-suc-le-suc}
 use native.Mathlib.Omega.{arith}
 use lib.ListN.{length, length-append, getD, List·getD-append}
@@ -30,6 +30,14 @@ pub all-at : {A : Type 0} (P : A → Type 0) (xs : List A) (j : ℕ) (d : A) →
 all-at P [] j d h l = absurd (omega arith)
 all-at P (x ∷ xs) zero d h l = h .0
 all-at P (x ∷ xs) (suc j) d h l = all-at P xs j d (h .1) (le-of-suc-le-suc l)
+
+pub all-by-entries : {A : Type 0} (P : A → Type 0) (xs : List A) (d : A) → ((j : ℕ) → j < length xs → P (getD xs j d)) → All P xs
+all-by-entries P [] d h = tt
+all-by-entries P (x ∷ xs) d h = (h 0 (omega arith), all-by-entries P xs d (λ j l. h (suc j) (suc-le-suc l)))
+
+pub all-of-each : {A : Type 0} (P : A → Type 0) → ((x : A) → P x) → (xs : List A) → All P xs
+all-of-each P h [] = tt
+all-of-each P h (x ∷ xs) = (h x, all-of-each P h xs)
 
 pub pairs-length : {A B : Type 0} (P : A → B → Type 0) (xs : List A) (ys : List B) → Pairs P xs ys → length ys ≡ length xs
 pairs-length P [] [] h = refl

@@ -1,7 +1,7 @@
 -- 02, point 8: an answered page has an unerased column at every level, so its low point is that of a column, and no unerased column's is below it. Assumes nothing.
-use mathlib.Core.List.{List, [], _∷_, _++_, map, append-assoc, append-nil}
+use mathlib.Core.List.{List, [], _∷_, _++_, map, flatMap}
 use mathlib.Core.Path.{_≡_, refl, sym, ap, _∙_, subst⁻¹}
-use Prim.Native.Nat.{ℕ, zero, suc, _+_, _*_, _≤_, _<_}
+use Prim.Native.Nat.{ℕ, zero, _+_, _*_, _≤_, _<_}
 use native.Mathlib.Omega.{arith}
 use lib.Dec.{lit<}
 use lib.IntN.{ℤ, natAbs}
@@ -26,10 +26,11 @@ use Rattle.concatenated.specs.Outer.{RowDecoder, RowEncoder, OuterLaws}
 use Rattle.concatenated.specs.Decode.{Reading, found, spent, Reader, mark, marks, lows, Level, level, answered, decoded, allLows, pageLow}
 use Rattle.concatenated.specs.OuterCode.{shortOuter, shortEncoder, ShortCodeword}
 use Rattle.concatenated.specs.Readers.{readerOf, shortReader}
-use Rattle.concatenated.proofs.Lists.{all-map, all-member, all-append}
+use Rattle.concatenated.proofs.Lists.{all-map, all-member, all-by-entries}
+use Rattle.concatenated.proofs.Groups.{flat-more, flat-all}
 use Rattle.concatenated.proofs.OuterJoint.{outer-laws}
 use Rattle.concatenated.proofs.Searches.{found-is-ahead-of-all}
-use Rattle.concatenated.proofs.Answers.{answer-is-of-levels, reached-columns-are-all, changed-and-erased-are-e-and-s}
+use Rattle.concatenated.proofs.Answers.{noLevel, answer-is-of-levels, reached-columns-are-all, changed-and-erased-are-e-and-s}
 
 -- a level's low points and its erased columns together are its columns
 lows-and-erased : (rs : List Reading) → length (lows rs) + total (marks rs) ≡ length rs
@@ -47,8 +48,7 @@ lows-append (spent n ∷ rs) ss = lows-append rs ss
 -- one level more
 pub all-lows-more : (ls : List Level) (l : Level) → allLows (ls ++ (l ∷ [])) ≡ allLows ls ++ l .lows
 unfolding allLows
-all-lows-more [] l = append-nil (l .lows)
-all-lows-more (k ∷ ls) l = ap (λ (zs : List ℤ). k .lows ++ zs) (all-lows-more ls l) ∙ sym (append-assoc (k .lows) (allLows ls) (l .lows))
+all-lows-more ls l = flat-more (λ k. k .lows) ls l
 
 -- ---- what holds of every low point
 
@@ -63,19 +63,15 @@ module _ (S : Shape) (outer : RowDecoder) (read : Reader) (page : List (List ℕ
       go (found w n) e others = (each i h c w n e, others)
       go (spent n) e others = others
 
-  levels-each : (ls : List Level) → ((i : ℕ) → i < length ls → (d : Level) → All Q (getD ls i d .lows)) → All Q (allLows ls)
-  unfolding allLows
-  levels-each [] all = tt
-  levels-each (l ∷ ls) all = all-append Q (l .lows) (allLows ls) (all 0 (omega arith) l) (levels-each ls (λ i h d. all (suc i) (omega arith) d))
-
   pub low-points-of-an-answer : (ls : List Level) (n : ℕ) → decoded S outer read page ≡ answered ls n → All Q (allLows ls)
-  unfolding level
+  unfolding level allLows
   low-points-of-an-answer ls n e =
       let below = answer-is-of-levels S outer read page ls n e in
-      levels-each ls (λ i h d.
+      flat-all Q (λ l. l .lows) ls
+      (all-by-entries (λ l. All Q (l .lows)) ls noLevel (λ i h.
       let level-h : i < levels S = omega (arith, below .as-many) in
-      let of = below .each i level-h d in
-      subst⁻¹ (λ (l : Level). All Q (l .lows)) (of .is-level) (lows-each i level-h (of .columns)))
+      let of = below .each i level-h noLevel in
+      subst⁻¹ (λ (l : Level). All Q (l .lows)) (of .is-level) (lows-each i level-h (of .columns))))
 
 -- they are near zero
 pub found-low-is-near : (S : Shape) (i : ℕ) → Searchable S i → (vs : ℕ → Values) (k : ℕ) → Near k (vs i) → (limit : ℕ) (kind : Kind) (c : List ℕ) (w : WordFound) (n : ℕ)
@@ -106,7 +102,7 @@ module _ (P : Format) (outer : RowDecoder) (encoded : RowEncoder) (Codeword : �
 
   module _ (some : 0 < levels (P .shape)) (few : (i : ℕ) → i < levels (P .shape) → P .roots i < P .columns) where
     some-lows : 0 < length (allLows ls)
-    unfolding allLows
+    unfolding allLows flatMap
     some-lows = go ls (answer-is-of-levels (P .shape) outer read page ls n e .as-many) (λ d. let first = every-level-has-an-unerased-column 0 some (few 0 some) d in omega (arith, first .0, first .1))
       where
         go : (ks : List Level) → length ks ≡ levels (P .shape) → ((d : Level) → 0 < length (getD ks 0 d .lows)) → 0 < length (allLows ks)

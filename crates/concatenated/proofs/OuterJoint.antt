@@ -1,24 +1,26 @@
 -- The outer code meets what a page asks of it: the answer is the codeword in reach. Assumes nothing.
 use mathlib.Core.Bool.{Bool, true, false}
 use mathlib.Core.List.{List, [], _∷_, map}
-use mathlib.Core.Path.{_≡_, refl, ap, ap₂, _∙_, subst, subst⁻¹, fun-ext}
-use Prim.Native.Nat.{ℕ, _<_}
+use mathlib.Core.Path.{_≡_, refl, sym, ap, ap₂, _∙_, subst, subst⁻¹, fun-ext}
+use Prim.Native.Nat.{ℕ, _-_, _<_}
 use native.Mathlib.Decide.{ℕ-discrete}
 use native.Mathlib.Omega.{arith}
 use lib.Dec.{lit<}
-use lib.ListN.{getD, List·getD-map}
+use lib.ListN.{getD, take, List·getD-map}
+use lib.Seq.{getD-take}
 use Rattle.field.proofs.Short.{primitive64}
 use Rattle.reedsolomon.specs.Words.{InReach}
 use Rattle.reedsolomon.specs.Search.{WordOf}
 use Rattle.reedsolomon.specs.Row.{symbol, marked, HasInFront, encodedRow}
 use Rattle.reedsolomon.proofs.ShortRows.{at-most-30-roots}
-use Rattle.reedsolomon.proofs.Answers.{word-is-of-symbols, answer-if, answer-only-if}
+use Rattle.reedsolomon.proofs.Answers.{word-is-of-symbols, answer-if, answer-only-if, encoded-row-if}
 use Rattle.reedsolomon.proofs.Remainders.{RowOf}
+use Rattle.reedsolomon.proofs.Deciding.{is-codeword-if, is-codeword-only-if}
 use Rattle.reedsolomon.proofs.Encoded.{encoded-row-has-data-in-front}
 use Rattle.concatenated.specs.Format.{shortPage, shortRoots, dataCount}
 use Rattle.concatenated.specs.Outer.{isIn, OuterLaws}
 use Rattle.concatenated.specs.Flags.{flag, isOne}
-use Rattle.concatenated.specs.OuterCode.{shortOuter, shortEncoder, ShortCodeword}
+use Rattle.concatenated.specs.OuterCode.{shortOuter, shortEncoder, ShortCodeword, isShortCodeword}
 
 -- ---- marks
 
@@ -51,6 +53,13 @@ module _ (i : ℕ) (h : i < 4) (d : List ℕ) (word : WordOf 64 (dataCount short
   unfolding shortEncoder HasInFront
   has-it-in-front = is-encoded .2
 
+-- a codeword is the encoded row of its data
+only-it : (i : ℕ) → i < 4 → (c : List ℕ) → ShortCodeword i c → shortEncoder i (take (dataCount shortPage i) c) ≡ c
+unfolding shortEncoder HasInFront
+only-it i h c code =
+    let T = shortRoots i in
+    encoded-row-if 6 67 63 T primitive64 (lit< tt) (take (63 - T) c) c (omega (arith, at-most-30-roots i)) (code .word) (code .code) (λ j l. sym (getD-take (63 - T) c j 0 l))
+
 -- the laws of the short page's outer code
 pub outer-laws : OuterLaws shortPage shortOuter shortEncoder ShortCodeword
 unfolding shortOuter
@@ -64,7 +73,18 @@ outer-laws =
           (record { word = r .0; code = r .1 .0 }, subst (Near i w c) (marked-by-flags marks) (r .1 .1));
       encodes = λ i d h word. encodes-it i h d word;
       in-front = λ i d h word. has-it-in-front i h d word;
+      only = λ i c h code. only-it i h c code;
     }
   where
     Near : ℕ → List ℕ → List ℕ → (ℕ → Bool) → Type 0
     Near i w c E = InReach ℕ-discrete E 63 (shortRoots i) (symbol w) (symbol c)
+
+-- ---- the test of a row
+
+pub short-codeword-is-told : (i : ℕ) (c : List ℕ) → ShortCodeword i c → isShortCodeword i c ≡ true
+unfolding isShortCodeword
+short-codeword-is-told i c code = is-codeword-if 6 67 63 (shortRoots i) c (code .code)
+
+pub told-is-a-short-codeword : (i : ℕ) (c : List ℕ) → WordOf 64 63 c → isShortCodeword i c ≡ true → ShortCodeword i c
+unfolding isShortCodeword
+told-is-a-short-codeword i c word e = record { word = word; code = is-codeword-only-if 6 67 63 (shortRoots i) c e }

@@ -12,7 +12,7 @@ use Rattle.packing.specs.Packing.{columnBytes}
 use Rattle.packing.specs.declared.ColumnBytes.{ColumnBytes}
 use Rattle.concatenated.specs.Format.{shortPage}
 use Rattle.concatenated.specs.Written.{columnSymbols, columnsOf, columnInBytes, pageInBytes}
-use Rattle.concatenated.proofs.Lists.{listed-at}
+use Rattle.concatenated.proofs.Lists.{listed-at, all-of-each}
 use Rattle.concatenated.proofs.Digits.{digits-length}
 use Rattle.concatenated.proofs.Encoding.{columns-of-length}
 use Rattle.concatenated.proofs.Short.{column-in-bytes}
@@ -52,7 +52,7 @@ byte-at rows j k h l =
     let long : length columns ≡ 63 = columns-of-length 63 rows in
     let inside : j < length columns = omega (arith, long, h) in
     let inside-words : j < length (map (columnOf short) columns) = omega (arith, length-map columns (columnOf short), long, h) in
-    flat-at (columnInBytes shortPage) 4 (λ x. digits-length 256 4 (x * 4)) (map (columnOf short) columns) j k 0 inside-words l
+    flat-at (columnInBytes shortPage) 4 (map (columnOf short) columns) (all-of-each _ (λ x. digits-length 256 4 (x * 4)) (map (columnOf short) columns)) j k 0 inside-words l
     ∙ ap (λ (x : ℕ). getD (columnInBytes shortPage x) k 0) (map-at (columnOf short) columns j [] 0 inside ∙ ap (columnOf short) (listed-at (columnSymbols rows) 63 j [] h))
     ∙ ap (λ (t : List ℕ). getD t k 0) (column-in-bytes (columnOf short (columnSymbols rows j)))
 

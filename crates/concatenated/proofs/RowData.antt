@@ -1,19 +1,21 @@
 -- The data of the rows: each row has its part of the data symbols, and the rows together have all. Assumes nothing.
 use mathlib.Core.Path.{_≡_, refl, sym, ap, ap₂, _∙_, subst, subst⁻¹}
+use mathlib.Core.Logic.{⊎-elim}
 use mathlib.Core.List.{List, [], _++_}
 use Prim.Native.Nat.{ℕ, zero, suc, _+_, _-_, _≤_, _<_}
 use native.Mathlib.Nat
+use native.Mathlib.Nat.{not-suc-le-zero, suc-inj, le-of-suc-le-suc, eq-or-lt-of-le}
 use native.Mathlib.Omega.{arith}
 use lib.Pow.{pow-pos}
-use lib.ListN.{length, length-drop, getD, take, drop, take-append-drop}
-use lib.Seq.{length-take-le, take-all, take-add}
+use lib.ListN.{length, length-append, length-drop, getD, take, drop, take-append-drop}
+use lib.Seq.{length-take-le, take-all, take-add, take-take, take-append-le, drop-append-le, drop-at}
 use Rattle.column.specs.Shape.{levels}
 use Rattle.reedsolomon.specs.Search.{WordOf}
 use Rattle.concatenated.specs.Format.{Format, SoundFormat, symbolValues, dataLength, dataCount, dataBefore}
 use Rattle.concatenated.specs.Data.{dataSymbols, dataBytes}
 use Rattle.concatenated.specs.Written.{rowData, rowsData, bytesOfRows}
-use Rattle.concatenated.proofs.Lists.{all-of-append}
-use Rattle.concatenated.proofs.Digits.{Below, below-is-word, packing-comes-back, repacked-length, repacked-below}
+use Rattle.concatenated.proofs.Lists.{all-append, all-of-append}
+use Rattle.concatenated.proofs.Digits.{Below, below-is-word, word-is-below, packing-comes-back, repacked-length, repacked-below}
 
 module _ (P : Format) where
   data-before-grows : (i k : ℕ) → dataBefore P i ≤ dataBefore P (k + i)
@@ -52,6 +54,59 @@ module _ (P : Format) where
 
       pub rows-have-all-data : rowsData P rs (levels (P .shape)) ≡ xs
       rows-have-all-data = rows-data-below (levels (P .shape)) (omega arith) ∙ take-all (dataBefore P (levels (P .shape))) xs (omega arith)
+
+  -- ---- from rows: the data in front of them, as many as there are places for them, and symbols
+  module _ (rs : List (List ℕ)) (words : (i : ℕ) → i < levels (P .shape) → WordOf (symbolValues P) (P .columns) (getD rs i [])) where
+    front-is-a-word : (i : ℕ) → i < levels (P .shape) → (length (take (dataCount P i) (getD rs i [])) ≡ dataCount P i) × Below (symbolValues P) (take (dataCount P i) (getD rs i []))
+    front-is-a-word i h =
+        let row = getD rs i [] in
+        let count = dataCount P i in (
+          length-take-le count row (omega (arith, words i h .0)),
+          all-of-append (λ x. x < symbolValues P) (take count row) (drop count row) (subst⁻¹ (Below (symbolValues P)) (take-append-drop count row) (word-is-below (symbolValues P) (P .columns) row (words i h))) .0,
+        )
+
+    pub rows-data-length : (n : ℕ) → n ≤ levels (P .shape) → length (rowsData P rs n) ≡ dataBefore P n
+    unfolding rowsData dataBefore
+    rows-data-length zero h = refl
+    rows-data-length (suc n) h = length-append (rowsData P rs n) (take (dataCount P n) (getD rs n [])) ∙ ap₂ _+_ (rows-data-length n (omega arith)) (front-is-a-word n (omega arith) .0)
+
+    pub rows-data-in-range : (n : ℕ) → n ≤ levels (P .shape) → Below (symbolValues P) (rowsData P rs n)
+    unfolding rowsData
+    rows-data-in-range zero h = tt
+    rows-data-in-range (suc n) h =
+        all-append (λ x. x < symbolValues P) (rowsData P rs n) (take (dataCount P n) (getD rs n [])) (rows-data-in-range n (omega arith)) (front-is-a-word n (omega arith) .1)
+
+    -- each row finds its own
+    pub row-data-of-rows : (n : ℕ) → n ≤ levels (P .shape) → (i : ℕ) → i < n → rowData P (rowsData P rs n) i ≡ take (dataCount P i) (getD rs i [])
+    unfolding rowsData rowData
+    row-data-of-rows zero h i l = absurd (not-suc-le-zero l)
+    row-data-of-rows (suc n) h i l =
+        ⊎-elim
+        (λ e.
+        let last : i ≡ n = suc-inj e in
+        ap (λ (k : ℕ). take (dataCount P k) (drop (dataBefore P k) (xs ++ new))) last ∙ ap (take (dataCount P n)) (drop-at xs new (dataBefore P n) (rows-data-length n (omega arith)))
+        ∙ take-take (dataCount P n) (dataCount P n) (getD rs n []) (omega arith) ∙ ap (λ (k : ℕ). take (dataCount P k) (getD rs k [])) (sym last))
+        (λ u.
+        let lower : i < n = le-of-suc-le-suc u in
+        let inside = row-data-within i n lower in
+        let long = rows-data-length n (omega arith) in
+        ap (take (dataCount P i)) (drop-append-le (dataBefore P i) xs new (omega (arith, inside, long)))
+        ∙ take-append-le (dataCount P i) (drop (dataBefore P i) xs) new (omega (arith, inside, long, length-drop (dataBefore P i) xs))
+        ∙ row-data-of-rows n (omega arith) i lower)
+        (eq-or-lt-of-le l)
+      where
+        xs : List ℕ
+        xs = rowsData P rs n
+
+        new : List ℕ
+        new = take (dataCount P n) (getD rs n [])
+
+    -- their bytes have their symbols
+    pub symbols-of-rows-come-back : SoundFormat P → dataSymbols P (bytesOfRows P rs) ≡ rowsData P rs (levels (P .shape))
+    unfolding bytesOfRows
+    symbols-of-rows-come-back ok =
+        packing-comes-back (symbolValues P) (P .groupSymbols) 256 (P .groupBytes) (P .groups) (rowsData P rs (levels (P .shape))) (omega arith) (sym (ok .packs))
+        (rows-data-length (levels (P .shape)) (omega arith) ∙ ok .holds) (rows-data-in-range (levels (P .shape)) (omega arith))
 
   -- ---- from bytes
 

@@ -1,6 +1,6 @@
 -- 01: page decoding, level by level, over any reader of columns. Assumes nothing.
 use mathlib.Core.Bool.{Bool, true, false, cond, not}
-use mathlib.Core.List.{List, [], _∷_, _++_, map}
+use mathlib.Core.List.{List, [], _∷_, _++_, map, flatMap}
 use mathlib.Core.Path.{_≡_}
 use Prim.Native.Nat.{ℕ, zero, suc, _+_, _<_}
 use lib.Dec.{eqb}
@@ -127,8 +127,7 @@ decoded S outer read page = outcome (run S outer read page (levels S))
 
 -- the low points of all levels together
 unfoldable pub allLows : List Level → List ℤ
-allLows [] = []
-allLows (l ∷ ls) = l .lows ++ allLows ls
+allLows ls = flatMap (λ l. l .lows) ls
 
 -- 02, point 8: "a page gives the lowest over its unerased columns at all levels"
 unfoldable pub pageLow : List Level → ℤ

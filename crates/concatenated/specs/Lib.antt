@@ -6,6 +6,7 @@ pub mod SoftPage
 pub mod Outer
 pub mod Decode
 pub mod Written
+pub mod Symbols
 pub mod Misread
 pub mod Readers
 pub mod Clean

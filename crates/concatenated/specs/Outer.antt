@@ -4,7 +4,7 @@ use mathlib.Core.List.{List}
 use mathlib.Core.Path.{_≡_}
 use Prim.Native.Nat.{ℕ, _<_}
 use native.Mathlib.Decide.{ℕ-discrete}
-use lib.ListN.{length, getD}
+use lib.ListN.{length, getD, take}
 use Rattle.column.specs.Shape.{levels}
 use Rattle.reedsolomon.specs.Words.{InReach}
 use Rattle.reedsolomon.specs.Search.{WordOf, OuterAnswer, Found}
@@ -35,3 +35,5 @@ pub record OuterLaws (P : Format) (outer : RowDecoder) (encoded : RowEncoder) (C
   -- encoding: the codeword with the data in front
   pub encodes : (i : ℕ) (d : List ℕ) → i < levels (P .shape) → WordOf (symbolValues P) (dataCount P i) d → Codeword i (encoded i d)
   pub in-front : (i : ℕ) (d : List ℕ) → i < levels (P .shape) → WordOf (symbolValues P) (dataCount P i) d → (j : ℕ) → j < dataCount P i → getD (encoded i d) j 0 ≡ getD d j 0
+  -- and only that one has them
+  pub only : (i : ℕ) (c : List ℕ) → i < levels (P .shape) → Codeword i c → encoded i (take (dataCount P i) c) ≡ c

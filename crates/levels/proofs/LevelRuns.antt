@@ -1,6 +1,6 @@
 -- The loop over levels: the arrays hold what the run has given so far. Assumes nothing.
-use mathlib.Core.Bool.{Bool, true, false, not, true≢false}
-use mathlib.Core.List.{List, [], _∷_, _++_, map}
+use mathlib.Core.Bool.{true, false, true≢false}
+use mathlib.Core.List.{List, [], _∷_, _++_, map, flatMap}
 use mathlib.Core.Logic.{⊎-elim}
 use mathlib.Core.Path.{_≡_, refl, sym, ap, ap₂, _∙_, subst, subst⁻¹}
 use Prim.Native.Nat.{ℕ, zero, suc, _+_, _-_, _*_, _≤_, _<_}
@@ -25,15 +25,6 @@ use Rattle.levels.specs.declared.ColumnsOutcome.the-variants.{Answered, 
 use Rattle.concatenated.proofs.Lists.{map-append}
 use Rattle.concatenated.proofs.Lows.{all-lows-more}
 use Rattle.levels.proofs.LevelSteps.{row-is-a-word}
-
--- tests of what is not so
-pub not-so : (b : Bool) → not b ≡ true → b ≡ false
-not-so true e = absurd (true≢false (sym e))
-not-so false e = refl
-
-pub so : (b : Bool) → not b ≡ false → b ≡ true
-so true e = refl
-so false e = absurd (true≢false e)
 
 -- what is held of the levels below i
 pub record Decoding (read : Reader) (page work held : List (List ℕ)) (changed erased : List ℕ) (sum : ℕ) (z : ℤ) (i : ℕ) : Type 0 where
@@ -144,7 +135,7 @@ decoding-answered read page work held changed erased sum z i f h low =
 
 pub decoding-none : (read : Reader) (page held : List (List ℕ)) (changed erased : List ℕ) → SoftColumns page → length held ≡ 4 → length changed ≡ 4 → length erased ≡ 4
     → Decoding read page page held changed erased 0 noneTaken 0
-unfolding run allLows lowest-from
+unfolding run allLows flatMap lowest-from
 decoding-none read page held changed erased s a b c =
     record {
       within = omega arith;

@@ -3,7 +3,7 @@
 ghost use mathlib.Core.Path.{_≡_};
 ghost use Prim.Native.Nat.{_+_, _≤_, _<_};
 ghost use lib.ListN.{length};
-ghost use Rattle.reedsolomon.specs.Row.{Symbols, outerAnswer, encodedRow, RowDecoded};
+ghost use Rattle.reedsolomon.specs.Row.{Symbols, isCodeword, outerAnswer, encodedRow, RowDecoded};
 ghost use Rattle.reedsolomon.specs.ShortRows.{shortRoots, RowRoots};
 use locator::erasure;
 use syndromes::encoder;
@@ -30,6 +30,17 @@ pub fn encode(data: &[u8], t: usize, out: &mut [u8])
     let n = data.len();
     lists::put(data, n, 0, out);
     lists::put(&r, t, n, out);
+}
+
+// Whether 63 symbols are a codeword: all syndromes are 0.
+pub fn is_codeword(symbols: &[u8], t: usize) -> bool
+    requires { ⌜ (length (now symbols) ≡ 63) × Symbols 6 (now symbols) × (t ≤ 30) ⌝ }
+    ensures { λ r. ⌜ r ≡ isCodeword 6 67 63 t (now (symbols .entry)) ⌝ }
+{
+    let mut w = [0u8; 64];
+    lists::put(symbols, 63, 0, &mut w);
+    let s = syndrome::syndromes(&w, t);
+    lists::all_zero(&s, t)
 }
 
 // Writes the codeword in reach of the symbols, and tells whether there is one; where there is none, nothing is written.

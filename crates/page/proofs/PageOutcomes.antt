@@ -1,29 +1,31 @@
--- A page's outcome from what its levels left. Assumes nothing.
-use mathlib.Core.List.{List, [], map}
+-- A page's outcome and symbols from what its levels left, and its data from its symbols. Assumes nothing.
+use mathlib.Core.List.{List, map}
 use mathlib.Core.Path.{_≡_, refl, sym, ap, ap₂, _∙_, subst, subst⁻¹}
-use Prim.Native.Nat.{ℕ, zero, suc, _+_, _≤_, _<_}
+use Prim.Native.Nat.{ℕ}
 use native.Mathlib.Omega.{arith}
 use lib.Count.{ones}
 use lib.IntN.{ℤ}
-use lib.ListN.{length, length-append, getD, take, drop, take-append-drop}
-use lib.Seq.{length-take-le}
+use lib.ListN.{length}
 use Rattle.column.specs.Shape.{short}
 use Rattle.reedsolomon.specs.Search.{WordOf}
-use Rattle.concatenated.specs.Format.{shortPage, dataBefore, dataCount}
+use Rattle.concatenated.specs.Format.{shortPage}
 use Rattle.concatenated.specs.SoftPage.{Soft, softColumns}
-use Rattle.concatenated.specs.Data.{dataBytes}
 use Rattle.concatenated.specs.Decode.{Reader, Level, pageLow, rows, PageAnswer, answered, refused, decoded}
 use Rattle.concatenated.specs.Written.{rowsData, bytesOfRows}
+use Rattle.concatenated.specs.Symbols.{rowAfterRow, rowsIn}
 use Rattle.concatenated.specs.Marks.{changedMarks, erasedMarks}
 use Rattle.concatenated.specs.Arrays.{SoftColumns, Rows}
-use Rattle.concatenated.specs.OuterCode.{shortOuter}
+use Rattle.concatenated.specs.OuterCode.{shortOuter, shortEncoder, ShortCodeword}
 use Rattle.levels.specs.Levels.{Ends, ColumnsDone}
-use Rattle.page.specs.Outcomes.{changedTotals, erasedTotals, refusedPage, outcomeOf, dataAfter}
+use Rattle.page.specs.Outcomes.{changedTotals, erasedTotals, refusedPage, outcomeOf, dataAfter, symbolsAfter}
 use Rattle.levels.specs.declared.ColumnsOutcome.{ColumnsOutcome}
 use Rattle.levels.specs.declared.ColumnsOutcome.the-variants.{Answered, Refused}
 use Rattle.page.specs.declared.PageOutcome.{PageOutcome}
-use Rattle.concatenated.proofs.Lists.{all-append, all-of-append}
-use Rattle.concatenated.proofs.Digits.{Below, below-is-word, word-is-below}
+use Rattle.concatenated.proofs.Digits.{below-is-word}
+use Rattle.concatenated.proofs.RowData.{rows-data-length, rows-data-in-range}
+use Rattle.concatenated.proofs.Symbols.{row-in-is-a-word}
+use Rattle.concatenated.proofs.RowsWritten.{answered-rows-come-back, answered-symbols-are-a-word}
+use Rattle.concatenated.proofs.OuterJoint.{outer-laws}
 use Rattle.concatenated.proofs.SoftPages.{as-many-columns, columns-are-soft}
 use Rattle.concatenated.proofs.Short.{short-page-numbers}
 use Rattle.concatenated.proofs.Marks.{ones-of-marks}
@@ -74,38 +76,16 @@ module _ (read : Reader) (page held : List (List ℕ)) (changed erased : List �
       go (answered ls m) ed h = let z : Answered m (pageLow ls) ≡ Refused l = sym (h .0) ∙ e in let y : _≡_ {A = ℕ} 0 1 = cc z in absurd (omega arith)
       go (refused k) ed h = let same : k ≡ l = cc (sym h ∙ e) in ed ∙ ap refused same
 
--- a refusal: number 10 with the level as its place, and the data as they were
+-- a refusal: number 10 with the level as its place, and the symbols as they were
 pub refusal-is-10 : (l : ℕ) → refusedPage 10 l ≡ outcomeOf (refused l)
 unfolding outcomeOf
 refusal-is-10 l = refl
 
-pub refusal-keeps-the-data : (old : List ℕ) (l : ℕ) → old ≡ dataAfter old (refused l)
-unfolding dataAfter
-refusal-keeps-the-data old l = refl
+pub refusal-keeps-the-symbols : (old : List ℕ) (l : ℕ) → old ≡ symbolsAfter old (refused l)
+unfolding symbolsAfter
+refusal-keeps-the-symbols old l = refl
 
--- the data in front of rows: as many as they should be, and symbols
-rows-data-long : (held : List (List ℕ)) → Rows held → (n : ℕ) → n ≤ 4 → length (rowsData shortPage held n) ≡ dataBefore shortPage n
-unfolding rowsData dataBefore
-rows-data-long held good zero h = refl
-rows-data-long held good (suc n) h =
-    length-append (rowsData shortPage held n) (take (dataCount shortPage n) (getD held n []))
-    ∙ ap₂ _+_ (rows-data-long held good n (omega arith)) (length-take-le (dataCount shortPage n) (getD held n []) (omega (arith, good .words n (omega arith) .0)))
-
-rows-data-below : (held : List (List ℕ)) → Rows held → (n : ℕ) → n ≤ 4 → Below 64 (rowsData shortPage held n)
-unfolding rowsData
-rows-data-below held good zero h = tt
-rows-data-below held good (suc n) h =
-    let row = getD held n [] in
-    let count = dataCount shortPage n in
-    all-append (λ x. x < 64) (rowsData shortPage held n) (take count row) (rows-data-below held good n (omega arith))
-    (all-of-append (λ x. x < 64) (take count row) (drop count row) (subst⁻¹ (Below 64) (take-append-drop count row) (word-is-below 64 63 row (good .words n (omega arith)))) .0)
-
-pub rows-data-is-a-word : (held : List (List ℕ)) (symbols : List ℕ) → Rows held → symbols ≡ rowsData shortPage held 4 → WordOf 64 200 symbols
-rows-data-is-a-word held symbols good e =
-    subst⁻¹ (WordOf 64 200) e
-    (subst (λ (n : ℕ). WordOf 64 n (rowsData shortPage held 4)) (rows-data-long held good 4 (omega arith) ∙ short-page-numbers .5) (below-is-word 64 (rowsData shortPage held 4) (rows-data-below held good 4 (omega arith))))
-
--- the outcome and the data of an answer
+-- the outcome and the symbols of an answer
 module _ (d : PageAnswer) (n : ℕ) (z : ℤ) (held : List (List ℕ)) (changed erased : List ℕ) (a : AnsweredBy d n z held changed erased) where
   pub answered-outcome : (cs es : List ℕ) (low : ℤ) → cs ≡ map ones changed → es ≡ map ones erased → low ≡ z
       → record { number = 0; place = 0; report = record { steps = n; changed = cs; erased = es; «changed_marks» = changed; «erased_marks» = erased; low = low } } ≡ outcomeOf d
@@ -121,7 +101,41 @@ module _ (d : PageAnswer) (n : ℕ) (z : ℤ) (held : List (List ℕ)) (changed 
       the-outcome : List ℕ → List ℕ → List ℕ → List ℕ → ℤ → PageOutcome
       the-outcome cs es changed erased low = record { number = 0; place = 0; report = record { steps = n; changed = cs; erased = es; «changed_marks» = changed; «erased_marks» = erased; low = low } }
 
-  pub answered-data : (old symbols new : List ℕ) → symbols ≡ rowsData shortPage held 4 → new ≡ dataBytes shortPage symbols → new ≡ dataAfter old d
-  unfolding dataAfter bytesOfRows
-  answered-data old symbols new es e =
-      e ∙ ap (dataBytes shortPage) (es ∙ ap (λ (x : List (List ℕ)). rowsData shortPage x 4) (a .rows-are)) ∙ ap (dataAfter old) (sym (a .is))
+  pub answered-symbols : (old new : List ℕ) → new ≡ rowAfterRow held → new ≡ symbolsAfter old d
+  unfolding symbolsAfter
+  answered-symbols old new e = e ∙ ap rowAfterRow (a .rows-are) ∙ ap (symbolsAfter old) (sym (a .is))
+
+-- ---- symbols are packed
+
+-- the data in front of the rows of a buffer are 200 symbols
+pub fronts-are-a-word : (symbols fronts : List ℕ) → WordOf 64 252 symbols → fronts ≡ rowsData shortPage (rowsIn shortPage symbols) 4 → WordOf 64 200 fronts
+fronts-are-a-word symbols fronts word e =
+    let rs = rowsIn shortPage symbols in
+    let words = row-in-is-a-word shortPage 64 symbols word in
+    subst⁻¹ (WordOf 64 200) e
+    (subst (λ (n : ℕ). WordOf 64 n (rowsData shortPage rs 4)) (rows-data-length shortPage rs words 4 (omega arith) ∙ short-page-numbers .5) (below-is-word 64 (rowsData shortPage rs 4) (rows-data-in-range shortPage rs words 4 (omega arith))))
+
+-- decoding is asking and packing: what was asked for is an outcome and symbols
+module _ (read : Reader) (page : List (List ℕ)) (wide : length page ≡ 63) (o : PageOutcome) (is : o ≡ outcomeOf (decoded short shortOuter read page)) where
+  -- an answer's symbols are in range, and the bytes of their rows are its data
+  pub answer-is-packed : o .number ≡ 0 → (old symbols : List ℕ) → symbols ≡ symbolsAfter old (decoded short shortOuter read page)
+      → WordOf 64 252 symbols × ((kept new : List ℕ) → new ≡ bytesOfRows shortPage (rowsIn shortPage symbols) → new ≡ dataAfter kept (decoded short shortOuter read page))
+  unfolding outcomeOf symbolsAfter dataAfter
+  answer-is-packed done old symbols = go (decoded short shortOuter read page) refl (sym (ap (λ (x : PageOutcome). x .number) is) ∙ done)
+    where
+      go : (d : PageAnswer) → decoded short shortOuter read page ≡ d → outcomeOf d .number ≡ 0 → symbols ≡ symbolsAfter old d
+          → WordOf 64 252 symbols × ((kept new : List ℕ) → new ≡ bytesOfRows shortPage (rowsIn shortPage symbols) → new ≡ dataAfter kept d)
+      go (refused l) ed z es = absurd (omega (arith, z))
+      go (answered ls n) ed z es = (
+        subst⁻¹ (WordOf 64 252) es (answered-symbols-are-a-word shortPage shortOuter shortEncoder ShortCodeword outer-laws read page wide ls n ed),
+        λ kept new e. e ∙ ap (λ (x : List ℕ). bytesOfRows shortPage (rowsIn shortPage x)) es
+            ∙ ap (bytesOfRows shortPage) (answered-rows-come-back shortPage shortOuter shortEncoder ShortCodeword outer-laws read page wide ls n ed),
+      )
+
+  pub refusal-is-not-packed : (o .number ≡ 0 → ⊥) → (kept : List ℕ) → kept ≡ dataAfter kept (decoded short shortOuter read page)
+  unfolding outcomeOf dataAfter
+  refusal-is-not-packed other kept = go (decoded short shortOuter read page) (λ z. other (ap (λ (x : PageOutcome). x .number) is ∙ z))
+    where
+      go : (d : PageAnswer) → (outcomeOf d .number ≡ 0 → ⊥) → kept ≡ dataAfter kept d
+      go (answered ls n) f = absurd (f refl)
+      go (refused l) f = refl

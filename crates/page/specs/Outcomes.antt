@@ -1,4 +1,4 @@
--- 01: what page decoding reports, as the code gives it, and the data after it. Assumes nothing.
+-- 01: what page decoding reports, as the code gives it, and what it leaves in the buffer it fills: the data, or 02's corrected symbols. Assumes nothing.
 use mathlib.Core.List.{List, map}
 use Prim.Native.Nat.{ℕ}
 use lib.IntN.{ℤ, pos}
@@ -10,6 +10,7 @@ use Rattle.concatenated.specs.Format.{shortPage}
 use Rattle.concatenated.specs.Decode.{Level, pageLow, rows, PageAnswer, answered, refused}
 use Rattle.concatenated.specs.Marks.{changedMarks, erasedMarks}
 use Rattle.concatenated.specs.Written.{bytesOfRows}
+use Rattle.concatenated.specs.Symbols.{rowAfterRow}
 
 -- how many columns each level changed, and how many it erased
 abbrev pub changedTotals : List Level → List ℕ
@@ -45,3 +46,8 @@ outcomeOf (refused l) = refusedPage 10 l
 unfoldable pub dataAfter : List ℕ → PageAnswer → List ℕ
 dataAfter old (answered ls n) = bytesOfRows shortPage (rows ls)
 dataAfter old (refused l) = old
+
+-- 02, point 7: "252 corrected symbols, row after row"; after a refusal the old ones
+unfoldable pub symbolsAfter : List ℕ → PageAnswer → List ℕ
+symbolsAfter old (answered ls n) = rowAfterRow (rows ls)
+symbolsAfter old (refused l) = old

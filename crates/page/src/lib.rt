@@ -1,4 +1,5 @@
-// Pages: 01, "Rows and page". A page is written from 150 bytes of data (`encode_page`), and a soft page is decoded to them (`decode_page`).
+// Pages: 01, "Rows and page". A page is written from 150 bytes of data (`encode_page`), and a soft page is decoded to them (`decode_page`): its corrected symbols are asked for (`ask_page`)
+// and packed (`pack`). Symbols from elsewhere are judged first (`lowest_no_word`).
 // What they give is defined in concatenated's specs/Written.antt and specs/Decode.antt, and in specs/Outcomes.antt.
 ghost use mathlib.Core.Path.{_≡_};
 ghost use Prim.Native.Nat.{_<_, _≤_};
@@ -8,10 +9,12 @@ ghost use Rattle.concatenated.specs.Format.{shortPage};
 ghost use Rattle.concatenated.specs.SoftPage.{Soft, softColumns};
 ghost use Rattle.concatenated.specs.Decode.{decoded};
 ghost use Rattle.concatenated.specs.Readers.{shortReader};
-ghost use Rattle.concatenated.specs.Written.{writtenPage, writtenRows};
+ghost use Rattle.concatenated.specs.Written.{writtenPage, writtenRows, bytesOfRows};
+ghost use Rattle.concatenated.specs.Symbols.{rowsIn, lowestNoWord};
 ghost use Rattle.search.specs.Outcomes.{searchOf};
-ghost use Rattle.concatenated.specs.OuterCode.{shortOuter, shortEncoder};
-ghost use Rattle.page.specs.Outcomes.{refusedPage, outcomeOf, dataAfter};
+ghost use Rattle.concatenated.specs.OuterCode.{shortOuter, shortEncoder, isShortCodeword};
+ghost use Rattle.reedsolomon.specs.Search.{WordOf};
+ghost use Rattle.page.specs.Outcomes.{refusedPage, outcomeOf, dataAfter, symbolsAfter};
 use coding::data;
 use coding::writing;
 use levels::ColumnsOutcome;
@@ -83,11 +86,11 @@ pub fn encode_page(data: &[u8], out: &mut [u8])
     writing::write_columns(&rows, out);
 }
 
-// The outcome of a soft page, by the whole or the supercode search of each column; the data are written last, and only if there is an answer.
-pub fn decode_page(soft: &[u8], limit: u64, in_supercodes: bool, data: &mut [u8]) -> PageOutcome
-    requires { ⌜ (length (now soft) ≡ 1890) × Soft (now soft) × (limit ≤ 2000) × (length (now «data») ≡ 150) ⌝ }
+// The outcome of a soft page, by the whole or the supercode search of each column, and its corrected symbols, row after row; they are written last, and only if there is an answer.
+pub fn ask_page(soft: &[u8], limit: u64, in_supercodes: bool, symbols: &mut [u8]) -> PageOutcome
+    requires { ⌜ (length (now soft) ≡ 1890) × Soft (now soft) × (limit ≤ 2000) × (length (now symbols) ≡ 252) ⌝ }
     ensures { λ r. ⌜ r ≡ outcomeOf (decoded short shortOuter (shortReader (searchOf in_supercodes) limit) (softColumns shortPage (now (soft .entry)))) ⌝ }
-    ensures { λ r. ⌜ now («data» .exit) ≡ dataAfter (now («data» .entry)) (decoded short shortOuter (shortReader (searchOf in_supercodes) limit) (softColumns shortPage (now (soft .entry)))) ⌝ }
+    ensures { λ r. ⌜ now (symbols .exit) ≡ symbolsAfter (now (symbols .entry)) (decoded short shortOuter (shortReader (searchOf in_supercodes) limit) (softColumns shortPage (now (soft .entry)))) ⌝ }
 {
     let mut work = [[0u8; 30]; 63];
     look::load(soft, &mut work);
@@ -110,9 +113,7 @@ pub fn decode_page(soft: &[u8], limit: u64, in_supercodes: bool, data: &mut [u8]
     );
     match outcome {
         ColumnsOutcome::Answered(steps, low) => {
-            let mut symbols = [0u8; 200];
-            data::rows_data(&held, &mut symbols);
-            data::bytes_of(&symbols, data);
+            data::row_after_row(&held, symbols);
             PageOutcome {
                 number: 0,
                 place: 0,
@@ -128,4 +129,45 @@ pub fn decode_page(soft: &[u8], limit: u64, in_supercodes: bool, data: &mut [u8]
         }
         ColumnsOutcome::Refused(level) => refused(10, level),
     }
+}
+
+// The lowest level whose row in the symbols is no word of its outer code; 4 where each is one.
+pub fn lowest_no_word(symbols: &[u8]) -> usize
+    requires { ⌜ WordOf 64 252 (now symbols) ⌝ }
+    ensures { λ r. ⌜ r ≡ lowestNoWord isShortCodeword 0 (rowsIn shortPage (now (symbols .entry))) ⌝ }
+{
+    let mut level: usize = 0;
+    while level < 4 {
+        let from = level * 63;
+        let to = from + 63;
+        if !outer::is_codeword(&symbols[from..to], outer::roots(level)) {
+            return level;
+        }
+        level += 1;
+    }
+    level
+}
+
+// Packs the data that the rows in the symbols hold.
+pub fn pack(symbols: &[u8], data: &mut [u8])
+    requires { ⌜ WordOf 64 252 (now symbols) × (length (now «data») ≡ 150) ⌝ }
+    ensures { λ r. ⌜ now («data» .exit) ≡ bytesOfRows shortPage (rowsIn shortPage (now (symbols .entry))) ⌝ }
+{
+    let mut fronts = [0u8; 200];
+    data::rows_data(symbols, &mut fronts);
+    data::bytes_of(&fronts, data);
+}
+
+// Asks for the symbols of a soft page and packs them: the data are written last, and only if there is an answer.
+pub fn decode_page(soft: &[u8], limit: u64, in_supercodes: bool, data: &mut [u8]) -> PageOutcome
+    requires { ⌜ (length (now soft) ≡ 1890) × Soft (now soft) × (limit ≤ 2000) × (length (now «data») ≡ 150) ⌝ }
+    ensures { λ r. ⌜ r ≡ outcomeOf (decoded short shortOuter (shortReader (searchOf in_supercodes) limit) (softColumns shortPage (now (soft .entry)))) ⌝ }
+    ensures { λ r. ⌜ now («data» .exit) ≡ dataAfter (now («data» .entry)) (decoded short shortOuter (shortReader (searchOf in_supercodes) limit) (softColumns shortPage (now (soft .entry)))) ⌝ }
+{
+    let mut symbols = [0u8; 252];
+    let outcome = ask_page(soft, limit, in_supercodes, &mut symbols);
+    if outcome.number == 0 {
+        pack(&symbols, data);
+    }
+    outcome
 }

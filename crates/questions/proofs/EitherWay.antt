@@ -1,10 +1,13 @@
--- What holds of a refusal and of what follows holds whatever the answer to a question is. Assumes nothing.
+-- What holds of a refusal and of what follows holds whatever the answer to a question is; and what the answer of all questions says of each. Assumes nothing.
 use mathlib.Core.Bool.{Bool, true, false}
 use mathlib.Core.Path.{_≡_, refl}
 use Prim.Native.Nat.{ℕ, _<_}
+use native.Mathlib.Omega.{arith}
 use borrow.Author.Tests.{leb-false}
 use lib.Dec.{leb}
 use Rattle.questions.specs.Questions.{ask}
+use Rattle.questions.specs.declared.Outcome.{Outcome}
+use Rattle.questions.specs.declared.Outcome.the-variants.{Done, Refused}
 
 -- the same, each by its answer
 pub by-answer : {A : Type 0} (P : A → Type 0) (t : Bool) (refusal next : A) → (t ≡ false → P refusal) → (t ≡ true → P next) → P (ask t refusal next)
@@ -17,3 +20,20 @@ either P t refusal next r n = by-answer P t refusal next (λ e. r) (λ e. n)
 -- question 5 is refused with a place below the count of values
 pub first-bad : {A : Type 0} (P : A → Type 0) (count first : ℕ) (refusal next : A) → (first < count → P refusal) → P next → P (ask (leb count first) refusal next)
 first-bad P count first refusal next r n = by-answer P (leb count first) refusal next (λ e. r (leb-false count first e)) (λ e. n)
+
+-- ---- the answer of the questions alone: Done, or the first no
+
+-- done: it was answered yes, and so were those behind it
+pub asked-done : (t : Bool) (n p : ℕ) (rest : Outcome) → ask t (Refused n p) rest ≡ Done → (t ≡ true) × (rest ≡ Done)
+asked-done true n p rest e = (refl, e)
+asked-done false n p rest e = let z : _≡_ {A = ℕ} 0 1 = cc in absurd (omega arith)
+
+-- refused by another number: it was answered yes
+pub asked-further : (t : Bool) (n p m q : ℕ) (rest : Outcome) → ask t (Refused n p) rest ≡ Refused m q → (n ≡ m → ⊥) → (t ≡ true) × (rest ≡ Refused m q)
+asked-further true n p m q rest e other = (refl, e)
+asked-further false n p m q rest e other = absurd (other cc)
+
+-- the last question was answered no
+pub asked-last : (t : Bool) (n p m q : ℕ) → ask t (Refused n p) Done ≡ Refused m q → (t ≡ false) × (p ≡ q)
+asked-last true n p m q e = let z : _≡_ {A = ℕ} 0 1 = cc in absurd (omega arith)
+asked-last false n p m q e = (refl, cc)

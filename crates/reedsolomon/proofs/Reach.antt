@@ -52,7 +52,7 @@ module _ {F : Type 0} {In : F → Type 0} {_⊕_ _⊗_ : F → F → F} {𝟘 �
   open Field K using (sum-self, in-sum, in-mul)
 
   -- two words differ at erased columns, and where one of them differs from w
-  differences-are-errors : (X : ℕ → F) (E : ℕ → Bool) (w a b : ℕ → F) (n : ℕ)
+  pub differences-are-errors : (X : ℕ → F) (E : ℕ → Bool) (w a b : ℕ → F) (n : ℕ)
       → nonzeros same 𝟘 n (λ j. (a j ⊕ b j) ⊗ X j) ≤ count E n + errors same E n w a + errors same E n w b
   unfolding count nonzeros errors
   differences-are-errors X E w a b zero = le-refl 0

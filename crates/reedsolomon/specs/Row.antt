@@ -27,6 +27,10 @@ pub codeword? : (m g N T : ℕ) (c : List ℕ) → Dec (IsCodeword m g N T c)
 unfolding IsCodeword
 codeword? m g N T c = all? (λ i. ℕ-discrete (syndrome add (mul m g) 0 1 α N (symbol c) i) 0) T
 
+-- whether it is one
+unfoldable pub isCodeword : (m g N T : ℕ) → List ℕ → Bool
+isCodeword m g N T c = elim (codeword? m g N T c) [ yes p ↦ true | no p ↦ false ]
+
 pub inReach? : (E : ℕ → Bool) (N T : ℕ) (w c : List ℕ) → Dec (InReach ℕ-discrete E N T (symbol w) (symbol c))
 unfolding InReach
 inReach? E N T w c = decLe _ T

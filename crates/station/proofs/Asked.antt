@@ -1,35 +1,53 @@
--- What the questions of page decoding for C lead to. Assumes nothing.
-use mathlib.Core.Bool.{Bool}
+-- What the questions of page decoding and of asking for C lead to. Assumes nothing.
+use mathlib.Core.Bool.{Bool, true, false, _&&_}
 use mathlib.Core.List.{List}
-use mathlib.Core.Path.{_≡_, refl, ap}
+use mathlib.Core.Path.{_≡_, refl, sym, ap, _∙_}
 use Prim.Native.Nat.{ℕ, _≤_}
 use native.Mathlib.Omega.{arith}
-use borrow.Author.Tests.{eq-eqb, ne-eqb}
+use borrow.Author.Tests.{eq-eqb, eqb-true}
 use lib.Dec.{eqb}
 use lib.ListN.{length}
 use Rattle.questions.specs.Questions.{ask}
-use Rattle.questions.proofs.EitherWay.{either}
-use Rattle.store_pages.specs.Pages.{askLimitAndValues, askPage}
-use Rattle.store_pages.proofs.Asked.{Refusals, any-limit-and-values}
-use Rattle.station.specs.PageReturned.{askDecode}
+use Rattle.store_pages.specs.Pages.{askPage}
+use Rattle.station.specs.PageReturned.{haveRoom}
 
-module _ (soft : List ℕ) (limit : ℕ) (bytes report : List ℕ) {A : Type 0} (refusal : ℕ → ℕ → A) (next : A) where
-  pub no-to-soft-length : (length soft ≡ 1890 → ⊥) → askDecode soft limit bytes report refusal next ≡ refusal 1 0
-  no-to-soft-length other = simp (ne-eqb _ _ other)
+and-true : (b : Bool) → (b && true) ≡ b
+and-true true = refl
+and-true false = refl
 
-  -- one output of another length is 2, whatever the other has
-  pub no-to-report-length : length soft ≡ 1890 → (length report ≡ 78 → ⊥) → askDecode soft limit bytes report refusal next ≡ refusal 2 0
-  no-to-report-length long other = simp (eq-eqb _ _ long, ne-eqb _ _ other) (either (λ (x : A). x ≡ refusal 2 0) (eqb (length bytes) 150) (refusal 2 0) (refusal 2 0) refl refl)
+-- one output of another length is 2, whatever the other has
+and-false : (b : Bool) → (b && false) ≡ false
+and-false true = refl
+and-false false = refl
 
-  -- with room for the report they are the questions of page decoding
-  pub report-has-room : length report ≡ 78 → askDecode soft limit bytes report refusal next ≡ askPage soft limit bytes refusal next
-  report-has-room room =
-      ap (λ (t : Bool). ask (eqb (length soft) 1890) (refusal 1 0) (ask (eqb (length bytes) 150) (refusal 2 0) (ask t (refusal 2 0) (askLimitAndValues soft limit refusal next)))) (eq-eqb _ _ room)
+-- the lengths that an entry asks about itself give 0, 1 or 2
+pub number-is-small : (soft report : List ℕ) (n : ℕ) → n ≡ ask (eqb (length soft) 1890) 1 (ask (eqb (length report) 78) 2 0) → n ≤ 14
+number-is-small soft report n = go (eqb (length soft) 1890) (eqb (length report) 78)
+  where
+    go : (a b : Bool) → n ≡ ask a 1 (ask b 2 0) → n ≤ 14
+    go false b e = omega (arith, e)
+    go true false e = omega (arith, e)
+    go true true e = omega (arith, e)
 
-  -- what holds of every refusal, and of what follows with a limit up to 2000, holds whatever is answered
-  pub every-way-for-c : (P : A → Type 0) → Refusals P refusal → (limit ≤ 2000 → P next) → P (askDecode soft limit bytes report refusal next)
-  every-way-for-c P r n =
-      either P (eqb (length soft) 1890) _ _ (r 1 0 (omega arith) (omega arith) (omega arith))
-      (either P (eqb (length bytes) 150) _ _ (r 2 0 (omega arith) (omega arith) (omega arith))
-      (either P (eqb (length report) 78) _ _ (r 2 0 (omega arith) (omega arith) (omega arith))
-      (any-limit-and-values soft limit P refusal next r n)))
+module _ (places : ℕ) (soft : List ℕ) (limit : ℕ) (buffer report : List ℕ) where
+  -- with room for the report they are the questions of the call
+  pub report-has-room : length report ≡ 78 → haveRoom places buffer report ≡ eqb (length buffer) places
+  report-has-room room = ap (λ (b : Bool). eqb (length buffer) places && b) (eq-eqb _ _ room) ∙ and-true (eqb (length buffer) places)
+
+  -- none of them is refused, or the first no is their number
+  pub lengths-are-right : (n : ℕ) → n ≡ ask (eqb (length soft) 1890) 1 (ask (eqb (length report) 78) 2 0) → n ≡ 0 → length report ≡ 78
+  lengths-are-right n e z = eqb-true _ _ (go (eqb (length soft) 1890) (eqb (length report) 78) e)
+    where
+      go : (a b : Bool) → n ≡ ask a 1 (ask b 2 0) → b ≡ true
+      go false b e = absurd (omega (arith, e, z))
+      go true false e = absurd (omega (arith, e, z))
+      go true true e = refl
+
+  pub first-no : (n : ℕ) → n ≡ ask (eqb (length soft) 1890) 1 (ask (eqb (length report) 78) 2 0) → (n ≡ 0 → ⊥)
+      → (A : Type 0) (refusal : ℕ → ℕ → A) (next : A) → askPage soft limit (haveRoom places buffer report) refusal next ≡ refusal n 0
+  first-no n e other A refusal next = go (eqb (length soft) 1890) (eqb (length report) 78) (eqb (length buffer) places) _ e
+    where
+      go : (a b c : Bool) (rest : A) → n ≡ ask a 1 (ask b 2 0) → ask a (refusal 1 0) (ask (c && b) (refusal 2 0) rest) ≡ refusal n 0
+      go false b c rest e = ap (λ (k : ℕ). refusal k 0) (sym e)
+      go true false c rest e = ap (λ (t : Bool). ask t (refusal 2 0) rest) (and-false c) ∙ ap (λ (k : ℕ). refusal k 0) (sym e)
+      go true true c rest e = absurd (other e)

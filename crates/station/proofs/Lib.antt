@@ -5,3 +5,4 @@ pub mod Steps
 pub mod Bytes
 pub mod Marking
 pub mod ReadBack
+pub mod AskThenCommit

@@ -1,4 +1,5 @@
 -- The numbers and places of the answers are small, so that both fit in what an entry returns. Assumes nothing.
+use mathlib.Core.Bool.{Bool}
 use mathlib.Core.List.{List, map}
 use mathlib.Core.Path.{_≡_}
 use Prim.Native.Nat.{ℕ, zero, suc, _/_, _%_, _≤_, _<_}
@@ -18,15 +19,16 @@ use Rattle.questions.specs.Questions.{firstAbove}
 use Rattle.questions.specs.Outcome.{number, place}
 use Rattle.questions.proofs.EitherWay.{either, first-bad}
 use Rattle.store_pages.specs.Pages.{encodePageAnswer, askPage, decodedPage}
+use Rattle.store_pages.specs.Committing.{noWordIn, commitAnswer}
 use Rattle.store_pages.proofs.Asked.{every-way}
 use Rattle.store_dumps.specs.Dumps.{askFixed, askCheck, askBlock, readAnswer}
 use Rattle.store_dumps.proofs.BlockByBlock.{each-keeps}
 use Rattle.questions.specs.declared.Outcome.{Outcome}
 use Rattle.station.specs.Returned.{returned}
 
--- the largest number is 10, and a place is a block, a level or an index of a soft page
+-- the largest number is 14, and a place is a block, a level or an index of a soft page or of symbols
 abbrev pub Small : ℕ → ℕ → Type 0
-Small n p = (n ≤ 10) × (p ≤ 1890)
+Small n p = (n ≤ 14) × (p ≤ 1890)
 
 abbrev pub SmallOutcome : Outcome → Type 0
 SmallOutcome o = Small (number o) (place o)
@@ -56,6 +58,13 @@ read-small dump out =
     (either SmallOutcome (eqb (length out) 1890) _ _ (omega arith, omega arith)
     (each-keeps (askBlock dump) SmallOutcome 4 (λ b h next small. block-small dump b next (omega arith) small) _
     (first-bad SmallOutcome 1890 (firstAbove (softOf dump) 7) _ _ (λ h. (omega arith, omega arith)) (omega arith, omega arith))))
+
+pub commit-small : (symbols out : List ℕ) → SmallOutcome (commitAnswer symbols out)
+commit-small symbols out =
+    either SmallOutcome (eqb (length symbols) 252) _ _ (omega arith, omega arith)
+    (either SmallOutcome (eqb (length out) 150) _ _ (omega arith, omega arith)
+    (first-bad SmallOutcome 252 (firstAbove symbols 63) _ _ (λ h. (omega arith, omega arith))
+    (first-bad SmallOutcome 4 (noWordIn symbols) _ _ (λ h. (omega arith, omega arith)) (omega arith, omega arith))))
 
 -- a run that stopped did so at a level that it came to
 abbrev StoppedBelow : ℕ → State → Type 0
@@ -87,5 +96,5 @@ module _ (S : Shape) (outer : RowDecoder) (read : Reader) (page : List (List ℕ
   unfolding decoded
   decoded-small few = outcome-small (levels S) few (run S outer read page (levels S)) (run-below (levels S))
 
-pub page-small : (s : Search) (soft : List ℕ) (limit : ℕ) (out : List ℕ) → SmallPage (askPage soft limit out refusedPage (outcomeOf (decodedPage s soft limit)))
-page-small s soft limit out = every-way soft limit out SmallPage refusedPage (outcomeOf (decodedPage s soft limit)) (λ n p some few near. (few, near)) (λ most. decoded-small _ _ _ _ (omega arith))
+pub page-small : (s : Search) (soft : List ℕ) (limit : ℕ) (room : Bool) → SmallPage (askPage soft limit room refusedPage (outcomeOf (decodedPage s soft limit)))
+page-small s soft limit room = every-way soft limit room SmallPage refusedPage (outcomeOf (decodedPage s soft limit)) (λ n p some few near. (omega (arith, few), near)) (λ most. decoded-small _ _ _ _ (omega arith))

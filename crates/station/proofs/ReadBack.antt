@@ -1,4 +1,4 @@
--- What C reads of the report that the page decoding entry leaves is the report of the page. Assumes nothing.
+-- What C reads of the report that a page entry leaves is the report of the page. Assumes nothing.
 use mathlib.Core.List.{List, append-assoc}
 use mathlib.Core.Path.{_≡_, refl, sym, ap, _∙_, subst⁻¹}
 use Prim.Native.Nat.{ℕ, zero, suc, _+_, _*_, _^_, _≤_, _<_}
@@ -12,6 +12,7 @@ use Rattle.trellis.specs.Demand.{supercode}
 use Rattle.packing.specs.Packing.{joined, sixteenBits, signedOf}
 use Rattle.packing.proofs.Signed.{signed-back, sixteen-bits-few}
 use Rattle.concatenated.specs.Data.{digits}
+use Rattle.concatenated.specs.Decode.{PageAnswer}
 use Rattle.concatenated.proofs.Digits.{digits-length}
 use Rattle.page.specs.Outcomes.{refusedPage, outcomeOf}
 use Rattle.page.specs.declared.PageOutcome.{PageOutcome}
@@ -21,8 +22,8 @@ use Rattle.store_pages.specs.Reports.{Marked}
 use Rattle.store_pages.proofs.Reports.{refusals-are-marked, answers-are-marked, answers-are-near}
 use Rattle.trellis.proofs.Sums.{mag-le}
 use Rattle.station.specs.Report.{totalBytes, stepsAndTotals, stepsToMarks, lowBytes, reportBytes, changedTotalIn, erasedTotalIn, Holds}
-use Rattle.station.specs.PageReturned.{decodeAnswer, PageReturned}
-use Rattle.station.proofs.Asked.{every-way-for-c}
+use Rattle.station.specs.PageReturned.{haveRoom, pageAnswer, PageReturned}
+use Rattle.store_pages.proofs.Asked.{every-way}
 use Rattle.station.proofs.Bytes.{number-comes-back, changed-part, erased-part}
 use Rattle.station.proofs.Marking.{front-length, to-marks-length, low-at}
 use Rattle.station.proofs.Steps.{steps-are-few}
@@ -30,15 +31,15 @@ use Rattle.station.proofs.Steps.{steps-are-few}
 abbrev ReportMarked : PageOutcome → Type 0
 ReportMarked o = Marked (o .report)
 
-answer-is-marked : (soft : List ℕ) (limit : ℕ) (bytes report : List ℕ) → ReportMarked (decodeAnswer soft limit bytes report)
-answer-is-marked soft limit bytes report =
-    every-way-for-c soft limit bytes report refusedPage (outcomeOf (decodedPage supercode soft limit)) ReportMarked (λ n p some few near. refusals-are-marked)
+answer-is-marked : (places : ℕ) (soft : List ℕ) (limit : ℕ) (buffer report : List ℕ) → ReportMarked (pageAnswer places soft limit buffer report)
+answer-is-marked places soft limit buffer report =
+    every-way soft limit (haveRoom places buffer report) ReportMarked refusedPage (outcomeOf (decodedPage supercode soft limit)) (λ n p some few near. refusals-are-marked)
     (λ most. answers-are-marked supercode soft limit (decodedPage supercode soft limit) refl)
 
 -- the low point has 16 bits
-answer-is-near : (soft : List ℕ) (limit : ℕ) (bytes report : List ℕ) → mag (decodeAnswer soft limit bytes report .report .low) < 32768
-answer-is-near soft limit bytes report =
-    every-way-for-c soft limit bytes report refusedPage (outcomeOf (decodedPage supercode soft limit)) (λ (o : PageOutcome). mag (o .report .low) < 32768) (λ n p some few near. omega arith)
+answer-is-near : (places : ℕ) (soft : List ℕ) (limit : ℕ) (buffer report : List ℕ) → mag (pageAnswer places soft limit buffer report .report .low) < 32768
+answer-is-near places soft limit buffer report =
+    every-way soft limit (haveRoom places buffer report) (λ (o : PageOutcome). mag (o .report .low) < 32768) refusedPage (outcomeOf (decodedPage supercode soft limit)) (λ n p some few near. omega arith)
     (λ most. omega (arith, mag-le (outcomeOf (decodedPage supercode soft limit) .report .low), answers-are-near supercode soft limit (decodedPage supercode soft limit) refl))
 
 totals-in : (r : Report) (level : ℕ) → level < 4 → (changedTotalIn (reportBytes r) level ≡ getD (r .changed) level 0) × (erasedTotalIn (reportBytes r) level ≡ getD (r .erased) level 0)
@@ -76,10 +77,10 @@ bytes-hold r few marked near =
     }
 
 -- the entry returned 0: the report that it left holds that of the page
-pub report-is-read-back : (soft : List ℕ) (limit : ℕ) (bytes report : List ℕ) (r : ℕ) (newBytes newReport : List ℕ) → PageReturned soft limit bytes report r newBytes newReport → r ≡ 0
-    → Holds newReport (decodeAnswer soft limit bytes report .report)
-report-is-read-back soft limit bytes report r newBytes newReport returned done =
-    let d = decodeAnswer soft limit bytes report in
+pub report-is-read-back : (places : ℕ) (made : List ℕ → PageAnswer → List ℕ) (soft : List ℕ) (limit : ℕ) (buffer report : List ℕ) (r : ℕ) (newBuffer newReport : List ℕ)
+    → PageReturned places made soft limit buffer report r newBuffer newReport → r ≡ 0 → Holds newReport (pageAnswer places soft limit buffer report .report)
+report-is-read-back places made soft limit buffer report r newBuffer newReport returned done =
+    let d = pageAnswer places soft limit buffer report in
     let answered : d .number ≡ 0 = omega (arith, returned .answer, done) in
     let is : newReport ≡ reportBytes (d .report) = returned .report-is ∙ simp (eq-eqb _ _ answered) in
-    subst⁻¹ (λ (x : List ℕ). Holds x (d .report)) is (bytes-hold (d .report) (omega (arith, steps-are-few soft limit bytes report .1)) (answer-is-marked soft limit bytes report) (answer-is-near soft limit bytes report))
+    subst⁻¹ (λ (x : List ℕ). Holds x (d .report)) is (bytes-hold (d .report) (omega (arith, steps-are-few places soft limit buffer report .1)) (answer-is-marked places soft limit buffer report) (answer-is-near places soft limit buffer report))

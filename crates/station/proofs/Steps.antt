@@ -19,8 +19,8 @@ use Rattle.page.specs.declared.PageOutcome.{PageOutcome}
 use Rattle.readings.proofs.RowReading.{count-within-the-limit}
 use Rattle.concatenated.proofs.SoftPages.{as-many-columns}
 use Rattle.store_pages.specs.Pages.{decodedPage}
-use Rattle.station.specs.PageReturned.{decodeAnswer}
-use Rattle.station.proofs.Asked.{every-way-for-c}
+use Rattle.station.specs.PageReturned.{haveRoom, pageAnswer}
+use Rattle.store_pages.proofs.Asked.{every-way}
 
 row-off-within : (S : Shape) (i : ℕ) (r : List ℕ) (cs : List (List ℕ)) → length (rowOff S i r cs) ≤ length cs
 unfolding rowOff
@@ -68,9 +68,9 @@ abbrev pub FewSteps : ℕ → PageOutcome → Type 0
 FewSteps limit o = (o .report .steps ≤ 252 * limit) × (o .report .steps ≤ 504000)
 
 -- 01: "all counts summed, a spent column counting the limit": 63 columns at four levels, the limit each
-pub steps-are-few : (soft : List ℕ) (limit : ℕ) (bytes report : List ℕ) → FewSteps limit (decodeAnswer soft limit bytes report)
-steps-are-few soft limit bytes report =
-    every-way-for-c soft limit bytes report refusedPage (outcomeOf (decodedPage supercode soft limit)) (FewSteps limit) (λ n p some few near. (omega arith, omega arith)) (λ most.
+pub steps-are-few : (places : ℕ) (soft : List ℕ) (limit : ℕ) (buffer report : List ℕ) → FewSteps limit (pageAnswer places soft limit buffer report)
+steps-are-few places soft limit buffer report =
+    every-way soft limit (haveRoom places buffer report) (FewSteps limit) refusedPage (outcomeOf (decodedPage supercode soft limit)) (λ n p some few near. (omega arith, omega arith)) (λ most.
     let few : outcomeOf (decodedPage supercode soft limit) .report .steps ≤ 252 * limit =
     decoded-within short shortOuter (shortReader supercode limit) limit (λ i c h. count-within-the-limit supercode limit i h c) (softColumns shortPage soft) (omega (arith, as-many-columns shortPage soft)) (omega arith)
     in (few, omega (arith, few, most)))

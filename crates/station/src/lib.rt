@@ -1,4 +1,4 @@
-// The station's C interface: 01, "The station's interface". Four entries on byte slices, thin over the public calls; c/station.h declares them.
+// The station's C interface: 01, "The station's interface", and 02, points 7 and 9. Seven entries on byte slices, thin over the public calls; c/station.h declares them.
 // Each returns number + 256 · place, 0 for success, and a refused one changes no byte that it was lent.
 ghost use mathlib.Core.List.{_++_};
 ghost use mathlib.Core.Path.{_≡_};
@@ -14,21 +14,25 @@ ghost use Rattle.store_dumps.specs.Dumps.{readAnswer};
 ghost use Rattle.questions.specs.Outcome.{number, place};
 ghost use Rattle.station.specs.Returned.{returned, Returned};
 ghost use Rattle.station.specs.Report.{markBytes, stepsAndTotals, lowBytes};
-ghost use Rattle.station.specs.PageReturned.{PageReturned};
+ghost use Rattle.station.specs.PageReturned.{reportAfter, PageDecodedForC, PageAskedForC};
+ghost use Rattle.store_pages.specs.Committing.{commitAnswer, heldBytes};
+ghost use Rattle.questions.specs.Questions.{ask};
+ghost use lib.Dec.{eqb};
+use page::PageOutcome;
 use page::Report;
 use questions::Outcome;
 use store_pages::DEFAULT_LIMIT;
 
 // A number and a place as one number.
 fn returned_number(number: u64, place: u64) -> u64
-    requires { ⌜ (number ≤ 10) × (place ≤ 1890) ⌝ }
+    requires { ⌜ (number ≤ 14) × (place ≤ 1890) ⌝ }
     ensures { λ r. ⌜ r ≡ returned number place ⌝ }
 {
     number + 256 * place
 }
 
 fn returned_outcome(outcome: Outcome) -> u64
-    requires { ⌜ (number outcome ≤ 10) × (place outcome ≤ 1890) ⌝ }
+    requires { ⌜ (number outcome ≤ 14) × (place outcome ≤ 1890) ⌝ }
     ensures { λ r. ⌜ r ≡ returned (number outcome) (place outcome) ⌝ }
 {
     match outcome {
@@ -114,23 +118,24 @@ fn write_low(low: i16, out: &mut [u8])
     out[1] = (bits % 256) as u8;
 }
 
-// Decodes a soft page of 1,890 values, by the supercode search with the given limit, into `data`, of 150 bytes, and `report`, of 78. Refused by 1, 2, 4, 5 and 10, whose place is the level.
-#[no_mangle]
-pub extern "C" fn station_decode_page_limit(
-    soft: &[u8],
-    limit: u64,
-    data: &mut [u8],
-    report: &mut [u8],
-) -> u64
-    ensures { λ r. ⌜ PageReturned (now (soft .entry)) limit (now («data» .entry)) (now (report .entry)) r (now («data» .exit)) (now (report .exit)) ⌝ }
+// The number of the first no to the lengths that a page entry asks about itself: 1 for the soft page, 2 for the report, 0 for none.
+fn lengths_asked(soft: usize, report: usize) -> u64
+    ensures { λ r. ⌜ r ≡ ask (eqb soft 1890) 1 (ask (eqb report 78) 2 0) ⌝ }
 {
-    if soft.len() != 1890 {
-        return returned_number(1, 0);
+    if soft != 1890 {
+        return 1;
     }
-    if report.len() != 78 {
-        return returned_number(2, 0);
+    if report != 78 {
+        return 2;
     }
-    let outcome = store_pages::decode_page(soft, limit, data);
+    0
+}
+
+// Writes the report of an answered page, and returns the number and place of the outcome.
+fn returned_page(outcome: PageOutcome, report: &mut [u8]) -> u64
+    requires { ⌜ (outcome .number ≤ 14) × (outcome .place ≤ 1890) × (length (now report) ≡ 78) ⌝ }
+    ensures { λ r. ⌜ (r ≡ returned (outcome .number) (outcome .place)) × (now (report .exit) ≡ reportAfter (now (report .entry)) outcome) ⌝ }
+{
     let number = outcome.number;
     let place = outcome.place;
     if number != 0 {
@@ -147,10 +152,60 @@ pub extern "C" fn station_decode_page_limit(
     returned_number(number, place)
 }
 
+// Decodes a soft page of 1,890 values, by the supercode search with the given limit, into `data`, of 150 bytes, and `report`, of 78. Refused by 1, 2, 4, 5 and 10, whose place is the level.
+#[no_mangle]
+pub extern "C" fn station_decode_page_limit(
+    soft: &[u8],
+    limit: u64,
+    data: &mut [u8],
+    report: &mut [u8],
+) -> u64
+    ensures { λ r. ⌜ PageDecodedForC (now (soft .entry)) limit (now («data» .entry)) (now (report .entry)) r (now («data» .exit)) (now (report .exit)) ⌝ }
+{
+    let bad = lengths_asked(soft.len(), report.len());
+    if bad != 0 {
+        return returned_number(bad, 0);
+    }
+    returned_page(store_pages::decode_page(soft, limit, data), report)
+}
+
 // The same with the default limit. Refused by 1, 2, 5 and 10.
 #[no_mangle]
 pub extern "C" fn station_decode_page(soft: &[u8], data: &mut [u8], report: &mut [u8]) -> u64
-    ensures { λ r. ⌜ PageReturned (now (soft .entry)) defaultLimit (now («data» .entry)) (now (report .entry)) r (now («data» .exit)) (now (report .exit)) ⌝ }
+    ensures { λ r. ⌜ PageDecodedForC (now (soft .entry)) defaultLimit (now («data» .entry)) (now (report .entry)) r (now («data» .exit)) (now (report .exit)) ⌝ }
 {
     station_decode_page_limit(soft, DEFAULT_LIMIT, data, report)
+}
+
+// Asks what `station_decode_page_limit` would give: the report or refusal, and in place of the data the 252 corrected symbols, row after row. Refused by 1, 2, 4, 5 and 10.
+#[no_mangle]
+pub extern "C" fn station_ask_page_limit(
+    soft: &[u8],
+    limit: u64,
+    symbols: &mut [u8],
+    report: &mut [u8],
+) -> u64
+    ensures { λ r. ⌜ PageAskedForC (now (soft .entry)) limit (now (symbols .entry)) (now (report .entry)) r (now (symbols .exit)) (now (report .exit)) ⌝ }
+{
+    let bad = lengths_asked(soft.len(), report.len());
+    if bad != 0 {
+        return returned_number(bad, 0);
+    }
+    returned_page(store_pages::ask_page(soft, limit, symbols), report)
+}
+
+// The same with the default limit. Refused by 1, 2, 5 and 10.
+#[no_mangle]
+pub extern "C" fn station_ask_page(soft: &[u8], symbols: &mut [u8], report: &mut [u8]) -> u64
+    ensures { λ r. ⌜ PageAskedForC (now (soft .entry)) defaultLimit (now (symbols .entry)) (now (report .entry)) r (now (symbols .exit)) (now (report .exit)) ⌝ }
+{
+    station_ask_page_limit(soft, DEFAULT_LIMIT, symbols, report)
+}
+
+// Writes into `data`, of 150 bytes, what the four rows of 252 symbols hold, whoever filled them. Refused by 1, 2, 5 and 14, whose place is the lowest level whose row is no word of its outer code.
+#[no_mangle]
+pub extern "C" fn station_commit_page(symbols: &[u8], data: &mut [u8]) -> u64
+    ensures { λ r. ⌜ Returned (commitAnswer (now (symbols .entry)) (now («data» .entry))) (heldBytes (now (symbols .entry))) (now («data» .entry)) r (now («data» .exit)) ⌝ }
+{
+    returned_outcome(store_pages::commit_page(symbols, data))
 }

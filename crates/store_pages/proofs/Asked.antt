@@ -1,68 +1,89 @@
--- What the questions of the page decoders lead to: the first no, or page decoding. Assumes nothing.
+-- What the questions of the page decoders and of asking lead to: the first no, or the page's answer. Assumes nothing.
+use mathlib.Core.Bool.{Bool, true, false}
 use mathlib.Core.List.{List}
-use mathlib.Core.Path.{_≡_, ap₂, _∙_}
-use Prim.Native.Nat.{ℕ, _≤_, _<_}
+use mathlib.Core.Path.{_≡_, refl, sym, ap, _∙_}
+use Prim.Native.Nat.{ℕ, _≤_}
 use native.Mathlib.Omega.{arith}
-use borrow.Author.Tests.{eq-eqb, ne-eqb, le-leb, lt-leb, leb-true}
+use borrow.Author.Tests.{eq-eqb, eqb-true, le-leb, leb-true}
 use lib.Dec.{eqb, leb}
 use lib.ListN.{length}
 use Rattle.trellis.specs.Demand.{Search}
-use Rattle.page.specs.Outcomes.{refusedPage, outcomeOf, dataAfter}
+use Rattle.concatenated.specs.SoftPage.{Soft}
+use Rattle.concatenated.specs.Decode.{PageAnswer}
+use Rattle.page.specs.Outcomes.{refusedPage, outcomeOf}
 use Rattle.page.specs.declared.PageOutcome.{PageOutcome}
-use Rattle.questions.specs.Questions.{firstAbove}
-use Rattle.questions.proofs.EitherWay.{by-answer, either, first-bad}
-use Rattle.store_pages.specs.Pages.{askLimitAndValues, askPage, decodedPage, PageDecoded}
+use Rattle.questions.specs.Questions.{ask, firstAbove}
+use Rattle.questions.specs.declared.Outcome.{Outcome}
+use Rattle.questions.specs.declared.Outcome.the-variants.{Done, Refused}
+use Rattle.questions.proofs.EitherWay.{by-answer, either, first-bad, asked-done}
+use Rattle.store_pages.specs.Pages.{askPage, decodedPage, PageFilled}
+use Rattle.store_pages.proofs.SoftValues.{values-are-soft}
 
 -- a refusal of a number 1..10 and a place up to 1890
 abbrev pub Refusals : {A : Type 0} → (A → Type 0) → (ℕ → ℕ → A) → Type 0
 Refusals P refusal = (n p : ℕ) → 1 ≤ n → n ≤ 10 → p ≤ 1890 → P (refusal n p)
 
--- what holds of every refusal, and of what follows with a limit up to 2000, holds whatever 4 and 5 are answered
-pub any-limit-and-values : (soft : List ℕ) (limit : ℕ) {A : Type 0} (P : A → Type 0) (refusal : ℕ → ℕ → A) (next : A) → Refusals P refusal → (limit ≤ 2000 → P next)
-    → P (askLimitAndValues soft limit refusal next)
-any-limit-and-values soft limit P refusal next r n =
-    either P (leb 1 limit) _ _ (r 4 0 (omega arith) (omega arith) (omega arith))
-    (by-answer P (leb limit 2000) _ _ (λ e. r 4 0 (omega arith) (omega arith) (omega arith)) (λ e.
-    first-bad P 1890 (firstAbove soft 7) _ _ (λ h. r 5 (firstAbove soft 7) (omega arith) (omega arith) (omega arith)) (n (leb-true limit 2000 e))))
+-- what the answer of the questions alone leads to: what a no gives, or what follows
+abbrev led : {A : Type 0} → Outcome → (ℕ → ℕ → A) → A → A
+led Done refusal next = next
+led (Refused n p) refusal next = refusal n p
 
-module _ (soft : List ℕ) (limit : ℕ) (old : List ℕ) where
-  -- the first no is number n with place p
-  abbrev pub FirstNo : ℕ → ℕ → Type 1
-  FirstNo n p = (A : Type 0) (refusal : ℕ → ℕ → A) (next : A) → refusal n p ≡ askPage soft limit old refusal next
-
-  pub no-to-1 : (length soft ≡ 1890 → ⊥) → FirstNo 1 0
-  no-to-1 other A refusal next = simp (ne-eqb _ _ other)
-
-  pub no-to-2 : length soft ≡ 1890 → (length old ≡ 150 → ⊥) → FirstNo 2 0
-  no-to-2 long other A refusal next = simp (eq-eqb _ _ long, ne-eqb _ _ other)
-
-  pub no-to-4-below : length soft ≡ 1890 → length old ≡ 150 → limit < 1 → FirstNo 4 0
-  no-to-4-below long room low A refusal next = simp (eq-eqb _ _ long, eq-eqb _ _ room, lt-leb _ _ low)
-
-  pub no-to-4-above : length soft ≡ 1890 → length old ≡ 150 → 1 ≤ limit → 2000 < limit → FirstNo 4 0
-  no-to-4-above long room some high A refusal next = simp (eq-eqb _ _ long, eq-eqb _ _ room, le-leb _ _ some, lt-leb _ _ high)
-
-  pub no-to-5 : length soft ≡ 1890 → length old ≡ 150 → 1 ≤ limit → limit ≤ 2000 → firstAbove soft 7 < 1890 → FirstNo 5 (firstAbove soft 7)
-  no-to-5 long room some most bad A refusal next = simp (eq-eqb _ _ long, eq-eqb _ _ room, le-leb _ _ some, le-leb _ _ most, lt-leb _ _ bad)
-
-  pub all-yes : length soft ≡ 1890 → length old ≡ 150 → 1 ≤ limit → limit ≤ 2000 → 1890 ≤ firstAbove soft 7 → (A : Type 0) (refusal : ℕ → ℕ → A) (next : A) → next ≡ askPage soft limit old refusal next
-  all-yes long room some most good A refusal next = simp (eq-eqb _ _ long, eq-eqb _ _ room, le-leb _ _ some, le-leb _ _ most, le-leb _ _ good)
-
-  -- so a decoder that gives the refusal and keeps the data, or decodes the page, gives what is due
-  pub refused-as : (s : Search) (n p : ℕ) → FirstNo n p → (r : PageOutcome) (m q : ℕ) → r ≡ refusedPage m q → m ≡ n → q ≡ p → PageDecoded s soft limit old r old
-  refused-as s n p asked r m q e em eq = record { answer = e ∙ ap₂ refusedPage em eq ∙ asked PageOutcome refusedPage (outcomeOf (decodedPage s soft limit)); bytes = asked (List ℕ) (λ n p. old) (dataAfter old (decodedPage s soft limit)) }
-
-  pub decoded-as : (s : Search) → length soft ≡ 1890 → length old ≡ 150 → 1 ≤ limit → limit ≤ 2000 → 1890 ≤ firstAbove soft 7
-      → (r : PageOutcome) (new : List ℕ) → r ≡ outcomeOf (decodedPage s soft limit) → new ≡ dataAfter old (decodedPage s soft limit) → PageDecoded s soft limit old r new
-  decoded-as s long room some most good r new e b =
-      record {
-        answer = e ∙ all-yes long room some most good PageOutcome refusedPage (outcomeOf (decodedPage s soft limit));
-        bytes = b ∙ all-yes long room some most good (List ℕ) (λ n p. old) (dataAfter old (decodedPage s soft limit));
-      }
-
-  -- and whatever all are answered
-  pub every-way : {A : Type 0} (P : A → Type 0) (refusal : ℕ → ℕ → A) (next : A) → Refusals P refusal → (limit ≤ 2000 → P next) → P (askPage soft limit old refusal next)
+module _ (soft : List ℕ) (limit : ℕ) (room : Bool) where
+  -- what holds of every refusal, and of what follows with a limit up to 2000, holds whatever is answered
+  pub every-way : {A : Type 0} (P : A → Type 0) (refusal : ℕ → ℕ → A) (next : A) → Refusals P refusal → (limit ≤ 2000 → P next) → P (askPage soft limit room refusal next)
   every-way P refusal next r n =
       either P (eqb (length soft) 1890) _ _ (r 1 0 (omega arith) (omega arith) (omega arith))
-      (either P (eqb (length old) 150) _ _ (r 2 0 (omega arith) (omega arith) (omega arith))
-      (any-limit-and-values soft limit P refusal next r n))
+      (either P room _ _ (r 2 0 (omega arith) (omega arith) (omega arith))
+      (either P (leb 1 limit) _ _ (r 4 0 (omega arith) (omega arith) (omega arith))
+      (by-answer P (leb limit 2000) _ _ (λ e. r 4 0 (omega arith) (omega arith) (omega arith)) (λ e.
+      first-bad P 1890 (firstAbove soft 7) _ _ (λ h. r 5 (firstAbove soft 7) (omega arith) (omega arith) (omega arith)) (n (leb-true limit 2000 e))))))
+
+  -- all are answered yes
+  pub all-yes : length soft ≡ 1890 → room ≡ true → 1 ≤ limit → limit ≤ 2000 → 1890 ≤ firstAbove soft 7 → (A : Type 0) (refusal : ℕ → ℕ → A) (next : A) → next ≡ askPage soft limit room refusal next
+  all-yes long has-room some most good A refusal next = simp (eq-eqb _ _ long, has-room, le-leb _ _ some, le-leb _ _ most, le-leb _ _ good)
+
+  -- then page decoding may begin
+  pub record Ready : Type 0 where
+    pub long : length soft ≡ 1890
+    pub values : Soft soft
+    pub most : limit ≤ 2000
+    pub has-room : room ≡ true
+
+  pub ready : askPage soft limit room Refused Done ≡ Done → Ready
+  ready e =
+      let one = asked-done (eqb (length soft) 1890) 1 0 _ e in
+      let two = asked-done room 2 0 _ (one .1) in
+      let four = asked-done (leb 1 limit) 4 0 _ (two .1) in
+      let most = asked-done (leb limit 2000) 4 0 _ (four .1) in
+      let five = asked-done (leb 1890 (firstAbove soft 7)) 5 (firstAbove soft 7) _ (most .1) in
+      let long : length soft ≡ 1890 = eqb-true _ _ (one .0) in
+      record { long = long; values = values-are-soft soft (omega (arith, long, leb-true 1890 (firstAbove soft 7) (five .0))); most = leb-true limit 2000 (most .0); has-room = two .0 }
+
+  -- the answer of the questions alone settles every use of them
+  pub settled : {A : Type 0} (refusal : ℕ → ℕ → A) (next : A) (o : Outcome) → o ≡ askPage soft limit room Refused Done → askPage soft limit room refusal next ≡ led o refusal next
+  settled {A} refusal next o e = go (eqb (length soft) 1890) room (leb 1 limit) (leb limit 2000) (leb 1890 (firstAbove soft 7)) ∙ ap (λ (x : Outcome). led x refusal next) (sym e)
+    where
+      bad : ℕ
+      bad = firstAbove soft 7
+
+      go : (a b c d f : Bool) → ask a (refusal 1 0) (ask b (refusal 2 0) (ask c (refusal 4 0) (ask d (refusal 4 0) (ask f (refusal 5 bad) next))))
+          ≡ led (ask a (Refused 1 0) (ask b (Refused 2 0) (ask c (Refused 4 0) (ask d (Refused 4 0) (ask f (Refused 5 bad) Done))))) refusal next
+      go false b c d f = refl
+      go true false c d f = refl
+      go true true false d f = refl
+      go true true true false f = refl
+      go true true true true false = refl
+      go true true true true true = refl
+
+-- so a call that gives the refusal and keeps the buffer, or what the page's answer gives, gives what is due
+module _ (places : ℕ) (made : List ℕ → PageAnswer → List ℕ) (s : Search) (soft : List ℕ) (limit : ℕ) (old : List ℕ) where
+  pub refused-as : (n p : ℕ) → Refused n p ≡ askPage soft limit (eqb (length old) places) Refused Done → (r : PageOutcome) → r ≡ refusedPage n p → PageFilled places made s soft limit old r old
+  refused-as n p asked r e =
+      let room = eqb (length old) places in
+      record { answer = e ∙ sym (settled soft limit room refusedPage _ (Refused n p) asked); bytes = sym (settled soft limit room (λ n p. old) _ (Refused n p) asked) }
+
+  pub filled-as : Done ≡ askPage soft limit (eqb (length old) places) Refused Done → (r : PageOutcome) (new : List ℕ) → r ≡ outcomeOf (decodedPage s soft limit)
+      → new ≡ made old (decodedPage s soft limit) → PageFilled places made s soft limit old r new
+  filled-as asked r new e b =
+      let room = eqb (length old) places in
+      record { answer = e ∙ sym (settled soft limit room refusedPage _ Done asked); bytes = b ∙ sym (settled soft limit room (λ n p. old) _ Done asked) }

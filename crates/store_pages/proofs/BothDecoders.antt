@@ -1,4 +1,4 @@
--- decode_page and decode_page_whole: demand 3 for pages, carried to the two calls by their contracts. Assumes nothing.
+-- decode_page and decode_page_whole, ask_page and ask_page_whole: demand 3 for pages, carried to the calls by their contracts. Assumes nothing.
 use mathlib.Core.Bool.{Bool, true, false}
 use mathlib.Core.List.{List}
 use mathlib.Core.Path.{_≡_, refl, sym, ap, _∙_, subst}
@@ -15,11 +15,11 @@ use Rattle.concatenated.specs.Decode.{PageAnswer, answered, refused, pageLow}
 use Rattle.concatenated.specs.Readers.{Agree, NoneSpent, deadAhead, sumBelow, shortReader}
 use Rattle.concatenated.specs.OuterCode.{shortOuter}
 use Rattle.concatenated.specs.Marks.{changedMarks, erasedMarks}
-use Rattle.page.specs.Outcomes.{changedTotals, erasedTotals, refusedPage, outcomeOf, dataAfter}
+use Rattle.page.specs.Outcomes.{changedTotals, erasedTotals, refusedPage, outcomeOf, dataAfter, symbolsAfter}
 use Rattle.page.specs.declared.PageOutcome.{PageOutcome}
 use Rattle.concatenated.proofs.Short.{decoders-agree}
 use Rattle.questions.specs.Questions.{ask, firstAbove}
-use Rattle.store_pages.specs.Pages.{decodedPage, askPage, PageDecoded}
+use Rattle.store_pages.specs.Pages.{decodedPage, askPage, PageFilled, PageDecoded, PageAsked}
 use Rattle.store_pages.specs.BothDecoders.{SameButSteps}
 
 outcomes-agree : (d : ℕ) (w s : PageAnswer) → Agree d w s → SameButSteps d (outcomeOf s) (outcomeOf w)
@@ -46,13 +46,20 @@ data-agree d old (answered ls m) (refused k) e = absurd e
 data-agree d old (refused l) (answered ks n) e = absurd e
 data-agree d old (refused l) (refused k) e = refl
 
+symbols-agree : (d : ℕ) (old : List ℕ) (w s : PageAnswer) → Agree d w s → symbolsAfter old s ≡ symbolsAfter old w
+unfolding symbolsAfter
+symbols-agree d old (answered ls m) (answered ks n) e = ap (λ l. symbolsAfter old (answered l n)) (sym (e .0))
+symbols-agree d old (answered ls m) (refused k) e = absurd e
+symbols-agree d old (refused l) (answered ks n) e = absurd e
+symbols-agree d old (refused l) (refused k) e = refl
+
 refusals-agree : (d n p : ℕ) → (n ≡ 0 → ⊥) → SameButSteps d (refusedPage n p) (refusedPage n p)
 refusals-agree d n p some = record { number = refl; place = refl; changed = refl; erased = refl; changed-marks = refl; erased-marks = refl; low = refl; steps = λ z. absurd (some z) }
 
 -- the same questions lead both calls to the same refusal, or both on
-asked-alike : (d : ℕ) (soft : List ℕ) (limit : ℕ) (old : List ℕ) (s w : PageOutcome) → SameButSteps d s w → SameButSteps d (askPage soft limit old refusedPage s) (askPage soft limit old refusedPage w)
-asked-alike d soft limit old s w same =
-    go (eqb (length soft) 1890) (eqb (length old) 150) (leb 1 limit) (leb limit 2000) (leb 1890 (firstAbove soft 7))
+asked-alike : (d : ℕ) (soft : List ℕ) (limit : ℕ) (room : Bool) (s w : PageOutcome) → SameButSteps d s w → SameButSteps d (askPage soft limit room refusedPage s) (askPage soft limit room refusedPage w)
+asked-alike d soft limit room s w same =
+    go (eqb (length soft) 1890) room (leb 1 limit) (leb limit 2000) (leb 1890 (firstAbove soft 7))
   where
     go : (a b c e f : Bool)
         → SameButSteps d (ask a (refusedPage 1 0) (ask b (refusedPage 2 0) (ask c (refusedPage 4 0) (ask e (refusedPage 4 0) (ask f (refusedPage 5 (firstAbove soft 7)) s)))))
@@ -71,14 +78,23 @@ module _ (soft : List ℕ) (limit : ℕ) (none-spent : NoneSpent short shortOute
 
   -- Where no supercode search at levels 1..3 that the supercode decoder makes is spent, both calls give the same bytes, number, place, totals and marks of
   -- changed and erased columns and the same low point, and the step sums of an answered page differ by exactly the dead paths ahead.
-  pub decode-page-and-decode-page-whole : (old : List ℕ) (rs rw : PageOutcome) (ns nw : List ℕ)
-      → PageDecoded supercode soft limit old rs ns → PageDecoded whole soft limit old rw nw → SameButSteps deadPaths rs rw × (ns ≡ nw)
-  decode-page-and-decode-page-whole old rs rw ns nw s w =
+  both-calls : (places : ℕ) (made : List ℕ → PageAnswer → List ℕ) → ((d : ℕ) (old : List ℕ) (w s : PageAnswer) → Agree d w s → made old s ≡ made old w) → (old : List ℕ) (rs rw : PageOutcome) (ns nw : List ℕ)
+      → PageFilled places made supercode soft limit old rs ns → PageFilled places made whole soft limit old rw nw → SameButSteps deadPaths rs rw × (ns ≡ nw)
+  both-calls places made made-agree old rs rw ns nw s w =
       let agree = decoders-agree shortOuter limit (softColumns shortPage soft) none-spent in
       let D = decodedPage whole soft limit in
-      let E = decodedPage supercode soft limit in (
+      let E = decodedPage supercode soft limit in
+      let room = eqb (length old) places in (
         subst (λ (x : PageOutcome). SameButSteps deadPaths x rw) (sym (s .answer))
-            (subst (λ (x : PageOutcome). SameButSteps deadPaths (askPage soft limit old refusedPage (outcomeOf E)) x) (sym (w .answer))
-            (asked-alike deadPaths soft limit old (outcomeOf E) (outcomeOf D) (outcomes-agree deadPaths D E agree))),
-        s .bytes ∙ ap (askPage soft limit old (λ n p. old)) (data-agree deadPaths old D E agree) ∙ sym (w .bytes),
+            (subst (λ (x : PageOutcome). SameButSteps deadPaths (askPage soft limit room refusedPage (outcomeOf E)) x) (sym (w .answer))
+            (asked-alike deadPaths soft limit room (outcomeOf E) (outcomeOf D) (outcomes-agree deadPaths D E agree))),
+        s .bytes ∙ ap (askPage soft limit room (λ n p. old)) (made-agree deadPaths old D E agree) ∙ sym (w .bytes),
       )
+
+  pub decode-page-and-decode-page-whole : (old : List ℕ) (rs rw : PageOutcome) (ns nw : List ℕ)
+      → PageDecoded supercode soft limit old rs ns → PageDecoded whole soft limit old rw nw → SameButSteps deadPaths rs rw × (ns ≡ nw)
+  decode-page-and-decode-page-whole = both-calls 150 dataAfter data-agree
+
+  pub ask-page-and-ask-page-whole : (old : List ℕ) (rs rw : PageOutcome) (ns nw : List ℕ)
+      → PageAsked supercode soft limit old rs ns → PageAsked whole soft limit old rw nw → SameButSteps deadPaths rs rw × (ns ≡ nw)
+  ask-page-and-ask-page-whole = both-calls 252 symbolsAfter symbols-agree

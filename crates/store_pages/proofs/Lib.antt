@@ -1,6 +1,8 @@
-pub mod Asked
 pub mod SoftValues
+pub mod Asked
 pub mod BothDecoders
 pub mod WrittenPages
 pub mod Reports
 pub mod ZeroPage
+pub mod Committing
+pub mod AskThenCommit

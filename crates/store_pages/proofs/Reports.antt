@@ -1,10 +1,11 @@
--- The report of either page decoder, for every input: its totals are the ones of its marks, its marks are of 63 columns, and its low point is that of its lowest column. Assumes nothing.
+-- The report of either page decoder, and of asking, for every input: its totals are the ones of its marks, its marks are of 63 columns, and its low point is that of its lowest column. Assumes nothing.
 use mathlib.Core.Bool.{Bool, true, false}
 use mathlib.Core.List.{List, [], map}
 use mathlib.Core.Path.{_≡_, refl, sym, ap, _∙_, subst, subst⁻¹}
 use Prim.Native.Nat.{ℕ, _^_, _≤_, _<_}
 use native.Mathlib.Omega.{arith}
 use lib.Count.{ones}
+use lib.Dec.{eqb}
 use lib.IntN.{pos, natAbs}
 use lib.ListN.{length, length-map, getD, getD-replicate, replicate}
 use Rattle.column.specs.Shape.{short}
@@ -19,19 +20,15 @@ use Rattle.concatenated.specs.Decode.{Level, PageAnswer, answered, refused}
 use Rattle.concatenated.specs.Readers.{shortReader}
 use Rattle.concatenated.specs.OuterCode.{shortOuter, shortEncoder, ShortCodeword}
 use Rattle.concatenated.proofs.Marks.{bit-is-membership, no-bit-above, mark-is-small, ones-of-marks}
-use Rattle.concatenated.proofs.Answers.{LevelSets, answer-is-of-levels, sets-of-levels}
+use Rattle.concatenated.proofs.Answers.{noLevel, LevelSets, answer-is-of-levels, sets-of-levels}
 use Rattle.concatenated.proofs.OuterJoint.{outer-laws}
 use Rattle.concatenated.proofs.Lows.{short-levels-have-an-unerased-column, short-page-low-is-lowest, short-page-low-is-near}
 use Rattle.concatenated.proofs.SoftPages.{as-many-columns}
 use Rattle.page.specs.Outcomes.{reportOf, refusalReport, refusedPage, outcomeOf}
 use Rattle.page.specs.declared.PageOutcome.{PageOutcome}
-use Rattle.store_pages.specs.Pages.{decodedPage, PageDecoded}
+use Rattle.store_pages.specs.Pages.{decodedPage, PageFilled}
 use Rattle.store_pages.specs.Reports.{bitAt, Marked, MarksOf, LowestColumn}
 use Rattle.store_pages.proofs.Asked.{every-way}
-
--- the level that none is
-noLevel : Level
-noLevel = record { symbols = []; changed = []; erased = []; lows = [] }
 
 -- no column
 none : (i : ℕ) → i < 4 → getD {A = ℕ} (replicate 4 0) i 0 ≡ 0
@@ -96,22 +93,22 @@ module _ (s : Search) (soft : List ℕ) (limit : ℕ) where
   answers-are-marked (refused l) e = refusals-are-marked
   answers-are-marked (answered ls n) e = answered-is-marked ls n e
 
-  -- either decoder, every input
-  pub reports-are-marked : (old : List ℕ) (r : PageOutcome) (new : List ℕ) → PageDecoded s soft limit old r new → Marked (r .report)
-  reports-are-marked old r new call =
+  -- either decoder, and asking by either, every input
+  pub reports-are-marked : (places : ℕ) (made : List ℕ → PageAnswer → List ℕ) (old : List ℕ) (r : PageOutcome) (new : List ℕ) → PageFilled places made s soft limit old r new → Marked (r .report)
+  reports-are-marked places made old r new call =
       subst⁻¹ (λ (o : PageOutcome). Marked (o .report)) (call .answer)
-      (every-way soft limit old (λ (o : PageOutcome). Marked (o .report)) refusedPage (outcomeOf (decodedPage s soft limit)) (λ n p some few near. refusals-are-marked) (λ most. answers-are-marked (decodedPage s soft limit) refl))
+      (every-way soft limit (eqb (length old) places) (λ (o : PageOutcome). Marked (o .report)) refusedPage (outcomeOf (decodedPage s soft limit)) (λ n p some few near. refusals-are-marked) (λ most. answers-are-marked (decodedPage s soft limit) refl))
 
   answers-have-their-marks : (d : PageAnswer) → decodedPage s soft limit ≡ d → outcomeOf d .number ≡ 0 → MarksOf d (outcomeOf d .report)
   unfolding outcomeOf
   answers-have-their-marks (refused l) e z = absurd (omega (arith, z))
   answers-have-their-marks (answered ls n) e z = record { levels = ls; is = refl; changed-bit = bit ls n e (λ l. l .changed); erased-bit = bit ls n e (λ l. l .erased) }
 
-  -- either decoder, where it answers: the bits of its marks are the columns of the levels' sets
-  pub bits-are-the-columns : (old : List ℕ) (r : PageOutcome) (new : List ℕ) → PageDecoded s soft limit old r new → r .number ≡ 0 → MarksOf (decodedPage s soft limit) (r .report)
-  bits-are-the-columns old r new call =
+  -- each of them, where it answers: the bits of its marks are the columns of the levels' sets
+  pub bits-are-the-columns : (places : ℕ) (made : List ℕ → PageAnswer → List ℕ) (old : List ℕ) (r : PageOutcome) (new : List ℕ) → PageFilled places made s soft limit old r new → r .number ≡ 0 → MarksOf (decodedPage s soft limit) (r .report)
+  bits-are-the-columns places made old r new call =
       subst⁻¹ HasMarks (call .answer)
-      (every-way soft limit old HasMarks refusedPage (outcomeOf D) (λ n p some few near z. absurd (omega (arith, some, z))) (λ most. answers-have-their-marks D refl))
+      (every-way soft limit (eqb (length old) places) HasMarks refusedPage (outcomeOf D) (λ n p some few near z. absurd (omega (arith, some, z))) (λ most. answers-have-their-marks D refl))
     where
       D : PageAnswer
       D = decodedPage s soft limit
@@ -136,12 +133,12 @@ module _ (s : Search) (soft : List ℕ) (limit : ℕ) where
         λ some. absurd (some refl),
       )
 
-  -- either decoder: where it answers, the low point is that of the lowest column; a refusal has 0
-  pub low-is-of-the-lowest-column : (old : List ℕ) (r : PageOutcome) (new : List ℕ) → PageDecoded s soft limit old r new
+  -- each of them: where it answers, the low point is that of the lowest column; a refusal has 0
+  pub low-is-of-the-lowest-column : (places : ℕ) (made : List ℕ → PageAnswer → List ℕ) (old : List ℕ) (r : PageOutcome) (new : List ℕ) → PageFilled places made s soft limit old r new
       → (r .number ≡ 0 → LowestColumn (decodedPage s soft limit) (r .report)) × ((r .number ≡ 0 → ⊥) → r .report .low ≡ pos 0)
-  low-is-of-the-lowest-column old r new call =
+  low-is-of-the-lowest-column places made old r new call =
       subst⁻¹ HasLow (call .answer)
-      (every-way soft limit old HasLow refusedPage (outcomeOf D) (λ n p some few near. (λ z. absurd (omega (arith, some, z)), λ k. refl)) (λ most. answers-have-the-lowest D refl))
+      (every-way soft limit (eqb (length old) places) HasLow refusedPage (outcomeOf D) (λ n p some few near. (λ z. absurd (omega (arith, some, z)), λ k. refl)) (λ most. answers-have-the-lowest D refl))
     where
       D : PageAnswer
       D = decodedPage s soft limit

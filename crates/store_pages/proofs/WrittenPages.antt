@@ -2,7 +2,8 @@
 use mathlib.Core.List.{List}
 use mathlib.Core.Path.{_≡_, sym, ap, _∙_}
 use Prim.Native.Nat.{ℕ, _≤_}
-use borrow.Author.Tests.{leb-true}
+use borrow.Author.Tests.{eq-eqb, leb-true}
+use lib.Dec.{eqb}
 use lib.ListN.{length}
 use Rattle.dump.specs.Accepted.{Values}
 use Rattle.trellis.specs.Demand.{Search}
@@ -25,8 +26,8 @@ use Rattle.questions.proofs.AllInRange.{no-value-above}
 use Rattle.store_pages.proofs.Asked.{all-yes}
 
 module _ (soft : List ℕ) (values-soft : Values 1890 7 soft) (limit : ℕ) (some : 1 ≤ limit) (at-most : limit ≤ 2000) (old : List ℕ) (room : length old ≡ 150) where
-  pub accepted : (A : Type 0) (refusal : ℕ → ℕ → A) (next : A) → next ≡ askPage soft limit old refusal next
-  accepted = all-yes soft limit old (values-soft .size) room some at-most (leb-true 1890 (firstAbove soft 7) (no-value-above soft 1890 7 (values-soft .size) (values-soft .range)))
+  pub accepted : (A : Type 0) (refusal : ℕ → ℕ → A) (next : A) → next ≡ askPage soft limit (eqb (length old) 150) refusal next
+  accepted = all-yes soft limit (eqb (length old) 150) (values-soft .size) (eq-eqb _ _ room) some at-most (leb-true 1890 (firstAbove soft 7) (no-value-above soft 1890 7 (values-soft .size) (values-soft .range)))
 
   -- what `encode_page` wrote, read within reach at each level, comes back from the call
   pub written-page-comes-back-from-the-calls : (s : Search) (bytes : List ℕ) → length bytes ≡ 150 → Below 256 bytes

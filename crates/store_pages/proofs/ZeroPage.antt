@@ -1,5 +1,5 @@
 -- 02, point 3, of the calls: "The step sum of the all-zero page remains 7560."; its low point is 2, that of a first bit at level 0. Assumes nothing.
-use mathlib.Core.List.{List}
+use mathlib.Core.List.{List, flatMap}
 use mathlib.Core.Path.{_≡_, refl, sym, ap, _∙_}
 use Prim.Native.Nat.{ℕ, _≤_}
 use native.Mathlib.Omega.{arith}
@@ -26,7 +26,7 @@ zeros-are-soft = record { size = refl; range = λ k h. let none : getD {A = ℕ}
 pub zero-page-comes-back-from-the-calls : (s : Search) (limit : ℕ) → 30 ≤ limit → limit ≤ 2000 → (old : List ℕ) → length old ≡ 150
     → (r : PageOutcome) (new : List ℕ) → PageDecoded s (zeroPage shortPage) limit old r new
     → (r ≡ record { number = 0; place = 0; report = noColumns 7560 (pos 2) }) × (new ≡ replicate 150 0)
-unfolding outcomeOf dataAfter total markOf listed pageLow allLows lowest lowest-from lower
+unfolding outcomeOf dataAfter total markOf listed pageLow allLows flatMap lowest lowest-from lower
 zero-page-comes-back-from-the-calls s limit enough most old room r new call =
     let asked = accepted (zeroPage shortPage) zeros-are-soft limit (omega arith) most old room in
     let D = decodedPage s (zeroPage shortPage) limit in

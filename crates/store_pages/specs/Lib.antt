@@ -2,3 +2,4 @@ pub mod Pages
 pub mod BothDecoders
 pub mod WrittenPages
 pub mod Reports
+pub mod Committing

@@ -1,4 +1,5 @@
--- 01: the questions put to the page calls, and their answers; 02, point 9: the default limit. Assumes nothing.
+-- 01: the questions put to the page calls, and their answers; 02, point 7: asking; point 9: the default limit. Assumes nothing.
+use mathlib.Core.Bool.{Bool}
 use mathlib.Core.List.{List}
 use mathlib.Core.Path.{_≡_}
 use Prim.Native.Nat.{ℕ}
@@ -11,7 +12,7 @@ use Rattle.concatenated.specs.SoftPage.{softColumns}
 use Rattle.concatenated.specs.Decode.{PageAnswer, decoded}
 use Rattle.concatenated.specs.Readers.{shortReader}
 use Rattle.concatenated.specs.OuterCode.{shortOuter}
-use Rattle.page.specs.Outcomes.{refusedPage, outcomeOf, dataAfter}
+use Rattle.page.specs.Outcomes.{refusedPage, outcomeOf, dataAfter, symbolsAfter}
 use Rattle.page.specs.declared.PageOutcome.{PageOutcome}
 use Rattle.questions.specs.Questions.{ask, firstAbove}
 use Rattle.questions.specs.declared.Outcome.{Outcome}
@@ -32,22 +33,25 @@ defaultLimit = 200
 abbrev pub decodedPage : Search → List ℕ → ℕ → PageAnswer
 decodedPage s soft limit = decoded short shortOuter (shortReader s limit) (softColumns shortPage soft)
 
--- 4: the limit 1..2,000, 5: each value 0..7; `refusal` gives what a no gives
-abbrev pub askLimitAndValues : {A : Type 0} → List ℕ → ℕ → (ℕ → ℕ → A) → A → A
-askLimitAndValues soft limit refusal next =
-    ask (leb 1 limit) (refusal 4 0)
+-- 1: 1,890 values, 2: whether the outputs have their places, 4: the limit 1..2,000, 5: each value 0..7; `refusal` gives what a no gives
+abbrev pub askPage : {A : Type 0} → List ℕ → ℕ → Bool → (ℕ → ℕ → A) → A → A
+askPage soft limit room refusal next =
+    ask (eqb (length soft) 1890) (refusal 1 0)
+    (ask room (refusal 2 0)
+    (ask (leb 1 limit) (refusal 4 0)
     (ask (leb limit 2000) (refusal 4 0)
     (ask (leb 1890 (firstAbove soft 7)) (refusal 5 (firstAbove soft 7))
-    next))
+    next))))
 
--- 1: 1,890 values, 2: 150 places, then 4 and 5
-abbrev pub askPage : {A : Type 0} → List ℕ → ℕ → List ℕ → (ℕ → ℕ → A) → A → A
-askPage soft limit out refusal next =
-    ask (eqb (length soft) 1890) (refusal 1 0)
-    (ask (eqb (length out) 150) (refusal 2 0)
-    (askLimitAndValues soft limit refusal next))
+-- the answer, 10 with its level included, and the buffer of so many places after it: what `made` leaves in it, or the old bytes
+pub record PageFilled (places : ℕ) (made : List ℕ → PageAnswer → List ℕ) (s : Search) (soft : List ℕ) (limit : ℕ) (old : List ℕ) (r : PageOutcome) (new : List ℕ) : Type 0 where
+  pub answer : r ≡ askPage soft limit (eqb (length old) places) refusedPage (outcomeOf (decodedPage s soft limit))
+  pub bytes : new ≡ askPage soft limit (eqb (length old) places) (λ n p. old) (made old (decodedPage s soft limit))
 
--- the answer, 10 with its level included, and the bytes: those of the answer, or the old ones
-pub record PageDecoded (s : Search) (soft : List ℕ) (limit : ℕ) (old : List ℕ) (r : PageOutcome) (new : List ℕ) : Type 0 where
-  pub answer : r ≡ askPage soft limit old refusedPage (outcomeOf (decodedPage s soft limit))
-  pub bytes : new ≡ askPage soft limit old (λ n p. old) (dataAfter old (decodedPage s soft limit))
+-- page decoding: 150 bytes
+abbrev pub PageDecoded : Search → List ℕ → ℕ → List ℕ → PageOutcome → List ℕ → Type 0
+PageDecoded = PageFilled 150 dataAfter
+
+-- 02, point 7: "Asking fills a lent buffer of 252 corrected symbols, row after row, and gives the report"
+abbrev pub PageAsked : Search → List ℕ → ℕ → List ℕ → PageOutcome → List ℕ → Type 0
+PageAsked = PageFilled 252 symbolsAfter

@@ -10,7 +10,9 @@ ghost use Rattle.concatenated.specs.Written.{writtenPage};
 ghost use Rattle.concatenated.specs.OuterCode.{shortEncoder};
 ghost use Rattle.search.specs.Outcomes.{searchOf};
 ghost use Rattle.questions.specs.Outcome.{Filled};
-ghost use Rattle.store_pages.specs.Pages.{encodePageAnswer, PageDecoded};
+ghost use Rattle.store_pages.specs.Pages.{encodePageAnswer, askPage, PageDecoded, PageAsked};
+ghost use Rattle.store_pages.specs.Committing.{Committed};
+ghost use Rattle.questions.specs.declared.Outcome.the-variants.{Done, Refused};
 use page::PageOutcome;
 use questions::Outcome;
 
@@ -31,27 +33,37 @@ pub fn encode_page(data: &[u8], out: &mut [u8]) -> Outcome
     Outcome::Done
 }
 
-// Either page decoder: the questions in their order, then page decoding by the search that the flag names.
-fn decode_either(soft: &[u8], limit: u64, in_supercodes: bool, data: &mut [u8]) -> PageOutcome
-    ensures { λ r. ⌜ PageDecoded (searchOf in_supercodes) (now (soft .entry)) limit (now («data» .entry)) r (now («data» .exit)) ⌝ }
+// The questions of page decoding and of asking, in their order; `room` tells whether the output has its places.
+fn page_questions(soft: &[u8], limit: u64, room: bool) -> Outcome
+    ensures { λ r. ⌜ r ≡ askPage (now (soft .entry)) limit room Refused Done ⌝ }
 {
     if soft.len() != 1890 {
-        return page::refused(1, 0);
+        return Outcome::Refused(1, 0);
     }
-    if data.len() != 150 {
-        return page::refused(2, 0);
+    if !room {
+        return Outcome::Refused(2, 0);
     }
     if limit < 1 {
-        return page::refused(4, 0);
+        return Outcome::Refused(4, 0);
     }
     if 2000 < limit {
-        return page::refused(4, 0);
+        return Outcome::Refused(4, 0);
     }
     let bad = questions::first_above(soft, 7);
     if bad < 1890 {
-        return page::refused(5, bad as u64);
+        return Outcome::Refused(5, bad as u64);
     }
-    page::decode_page(soft, limit, in_supercodes, data)
+    Outcome::Done
+}
+
+// Either page decoder: the questions, then page decoding by the search that the flag names.
+fn decode_either(soft: &[u8], limit: u64, in_supercodes: bool, data: &mut [u8]) -> PageOutcome
+    ensures { λ r. ⌜ PageDecoded (searchOf in_supercodes) (now (soft .entry)) limit (now («data» .entry)) r (now («data» .exit)) ⌝ }
+{
+    match page_questions(soft, limit, data.len() == 150) {
+        Outcome::Done => page::decode_page(soft, limit, in_supercodes, data),
+        Outcome::Refused(n, p) => page::refused(n, p),
+    }
 }
 
 // The data of a soft page, by the supercode search of every column with the given limit. Refused by 1, 2, 4, 5 and 10, whose place is the level; `data` is then as it was.
@@ -66,6 +78,52 @@ pub fn decode_page_whole(soft: &[u8], limit: u64, data: &mut [u8]) -> PageOutcom
     ensures { λ r. ⌜ PageDecoded whole (now (soft .entry)) limit (now («data» .entry)) r (now («data» .exit)) ⌝ }
 {
     decode_either(soft, limit, false, data)
+}
+
+// Asking, by either search: the questions, then the corrected symbols.
+fn ask_either(soft: &[u8], limit: u64, in_supercodes: bool, symbols: &mut [u8]) -> PageOutcome
+    ensures { λ r. ⌜ PageAsked (searchOf in_supercodes) (now (soft .entry)) limit (now (symbols .entry)) r (now (symbols .exit)) ⌝ }
+{
+    match page_questions(soft, limit, symbols.len() == 252) {
+        Outcome::Done => page::ask_page(soft, limit, in_supercodes, symbols),
+        Outcome::Refused(n, p) => page::refused(n, p),
+    }
+}
+
+// Asks what decoding a soft page would give, by the supercode search: its report or refusal, and the 252 corrected symbols, row after row. Refused by 1, 2, 4, 5 and 10; `symbols` is then as it was.
+pub fn ask_page(soft: &[u8], limit: u64, symbols: &mut [u8]) -> PageOutcome
+    ensures { λ r. ⌜ PageAsked supercode (now (soft .entry)) limit (now (symbols .entry)) r (now (symbols .exit)) ⌝ }
+{
+    ask_either(soft, limit, true, symbols)
+}
+
+// The same by the whole search.
+pub fn ask_page_whole(soft: &[u8], limit: u64, symbols: &mut [u8]) -> PageOutcome
+    ensures { λ r. ⌜ PageAsked whole (now (soft .entry)) limit (now (symbols .entry)) r (now (symbols .exit)) ⌝ }
+{
+    ask_either(soft, limit, false, symbols)
+}
+
+// Writes the 150 bytes that the rows of 252 symbols hold, whoever filled them. Refused by 1, 2, 5 and 14, whose place is the lowest level whose row is no word of its outer code; `data` is then as it was.
+pub fn commit_page(symbols: &[u8], data: &mut [u8]) -> Outcome
+    ensures { λ r. ⌜ Committed (now (symbols .entry)) (now («data» .entry)) r (now («data» .exit)) ⌝ }
+{
+    if symbols.len() != 252 {
+        return Outcome::Refused(1, 0);
+    }
+    if data.len() != 150 {
+        return Outcome::Refused(2, 0);
+    }
+    let above = questions::first_above(symbols, 63);
+    if above < 252 {
+        return Outcome::Refused(5, above as u64);
+    }
+    let level = page::lowest_no_word(symbols);
+    if level < 4 {
+        return Outcome::Refused(14, level as u64);
+    }
+    page::pack(symbols, data);
+    Outcome::Done
 }
 
 // The 30 bytes of column j of a soft page, as a part of the page itself; for a column above 62 or a page of another length the part is empty. It gives no number.

@@ -8,7 +8,8 @@ use Rattle.stack.specs.Places.{Room}
 use Rattle.concatenated.specs.Readers.{shortReader}
 use Rattle.search.specs.Outcomes.{searchOf}
 use Rattle.concatenated.proofs.Lows.{short-page-low-from}
-use Rattle.levels.proofs.LevelRuns.{not-so, so, Decoding, decoding-none, decoding-more, decoding-refused, decoding-answered}
+use Rattle.levels.proofs.LevelRuns.{Decoding, decoding-none, decoding-more, decoding-refused, decoding-answered}
+use borrow.Author.Tests.{not-true, not-false}
 use borrow.Author.Needs.{needs}
 use Rattle.levels.proofs.decode_columns.Statement.{statement}
 use Rattle.levels.proofs.decode_columns.Tie as tie
@@ -31,7 +32,7 @@ decode-level-requires c κs =
 returns : tie.Need-returns Inv-loop μ-loop
 returns c =
     let turn = c .before .before .before .before .before .before .before in
-    decoding-refused _ _ _ _ _ _ _ _ _ (turn .loop .inv .0) (c .before .before .before .before .before .before .loop-test .taken) _ _ (c .before .decode-level .ensures .0) (not-so _ (c .if1 .taken)) _ _ _
+    decoding-refused _ _ _ _ _ _ _ _ _ (turn .loop .inv .0) (c .before .before .before .before .before .before .loop-test .taken) _ _ (c .before .decode-level .ensures .0) (not-true _ (c .if1 .taken)) _ _ _
 
 mul-r : tie.Need-mul-r Inv-loop μ-loop
 mul-r c = search needs
@@ -64,7 +65,7 @@ loop-again : tie.Need-loop-again Inv-loop μ-loop
 loop-again c =
     let turn = c .before .before .before .before .before .before .before .before .before .before in
     let done = c .before .before .before .before .decode-level .ensures in
-    (decoding-more _ _ _ _ _ _ _ _ _ (turn .loop .inv .0) (c .before .before .before .before .before .before .before .before .before .loop-test .taken) _ _ (done .0) (so _ (c .before .before .before .if1 .left)) (done .1) (done .2) _ (omega arith) _ (toZ-ofZ (record { sfits = c .struct-told .given .1 .1 .1 .1 .0 .1 })), done .3)
+    (decoding-more _ _ _ _ _ _ _ _ _ (turn .loop .inv .0) (c .before .before .before .before .before .before .before .before .before .loop-test .taken) _ _ (done .0) (not-false _ (c .before .before .before .if1 .left)) (done .1) (done .2) _ (omega arith) _ (toZ-ofZ (record { sfits = c .struct-told .given .1 .1 .1 .1 .0 .1 })), done .3)
 
 returns-2 : tie.Need-returns-2 Inv-loop μ-loop
 returns-2 c =

@@ -1,115 +1,61 @@
--- `page::decode_page` meets its contract: by the two cases of what the levels gave. Assumes nothing.
-use mathlib.Core.Path.{refl, sym, ap, _∙_}
-use Prim.Native.Nat.{ℕ}
-use mathlib.Core.List.{List}
-use mir.Facts.{toZ-ofZ}
-use Rattle.column.specs.Shape.{short}
-use Rattle.concatenated.specs.Decode.{decoded}
+-- `page::decode_page` meets its contract: what is asked for is packed. Assumes nothing.
+use Rattle.concatenated.specs.Format.{shortPage}
+use Rattle.concatenated.specs.SoftPage.{softColumns}
 use Rattle.concatenated.specs.Readers.{shortReader}
+use Rattle.concatenated.proofs.SoftPages.{as-many-columns}
 use Rattle.search.specs.Outcomes.{searchOf}
-use Rattle.concatenated.specs.OuterCode.{shortOuter}
-use Rattle.page.specs.Outcomes.{outcomeOf, dataAfter}
-use Rattle.page.proofs.PageOutcomes.{soft-columns, is-answered, is-refused, refusal-is-10, refusal-keeps-the-data, rows-data-is-a-word, answered-outcome, answered-data}
+use Rattle.page.proofs.PageOutcomes.{answer-is-packed, refusal-is-not-packed}
 use borrow.Author.Needs.{needs}
 use Rattle.page.proofs.decode_page.Statement.{statement}
 use Rattle.page.proofs.decode_page.Tie as tie
 
-load-requires : tie.Need-load-requires
-load-requires c κs = search needs
+slice-aggregate-ask-page : tie.Need-slice-aggregate-ask-page
+slice-aggregate-ask-page c = search needs
 
-decode-columns-requires : tie.Need-decode-columns-requires
-decode-columns-requires c κs =
-    let start = c .before .before .before .before .before .before .before .before .before .before .before in
-    (start .pre .2, soft-columns _ _ (start .pre .0) (start .pre .1) (c .before .before .before .before .before .before .before .load .ensures), record { sums = refl; lens = refl; bits = refl }, refl, refl, refl)
+ask-page-requires : tie.Need-ask-page-requires
+ask-page-requires c κs = search needs
 
-enum-known-outcome : tie.Need-enum-known-outcome
-enum-known-outcome c = search needs
+slice-aggregate-pack : tie.Need-slice-aggregate-pack
+slice-aggregate-pack c = search needs
 
-rows-data-requires : tie.Need-rows-data-requires
-rows-data-requires c κs =
-    let left = c .before .before .before .before .before in
-    let start = left .before .before .before .before .before .before .before .before .before .before .before .before in
+pack-requires : tie.Need-pack-requires
+pack-requires c κs =
+    let asked = c .before .before .before .before .before .ask-page .ensures in
+    let start = c .before .before .before .before .before .before .before .before .before in
     let read = shortReader (searchOf (start .args .in-supercodes)) (start .args .limit) in
-    let told = c .before .before .before .outcome .given in
-    let answer = is-answered read _ _ _ _ _ (left .decode-columns .ensures) (told .0 .0) (told .0 .1 .0) (told .1) in
-    (answer .good .four, refl, λ i h. answer .good .words i h .0)
-
-bytes-of-requires : tie.Need-bytes-of-requires
-bytes-of-requires c κs =
-    let left = c .before .before .before .before .before .before .before .before in
-    let start = left .before .before .before .before .before .before .before .before .before .before .before .before in
-    let read = shortReader (searchOf (start .args .in-supercodes)) (start .args .limit) in
-    let told = c .before .before .before .before .before .before .outcome .given in
-    let answer = is-answered read _ _ _ _ _ (left .decode-columns .ensures) (told .0 .0) (told .0 .1 .0) (told .1) in
-    let put = c .before .before .rows-data .ensures in
-    (rows-data-is-a-word _ _ (answer .good) put, start .pre .3)
-
-totals-requires : tie.Need-totals-requires
-totals-requires c κs =
-    let left = c .before .before .before .before .before .before .before .before .before .before .before .before in
-    let start = left .before .before .before .before .before .before .before .before .before .before .before .before in
-    let read = shortReader (searchOf (start .args .in-supercodes)) (start .args .limit) in
-    let told = c .before .before .before .before .before .before .before .before .before .before .outcome .given in
-    let answer = is-answered read _ _ _ _ _ (left .decode-columns .ensures) (told .0 .0) (told .0 .1 .0) (told .1) in
-    answer .four-changed
-
-totals-requires-2 : tie.Need-totals-requires-2
-totals-requires-2 c κs =
-    let left = c .before .before .before .before .before .before .before .before .before .before .before .before .before .before in
-    let start = left .before .before .before .before .before .before .before .before .before .before .before .before in
-    let read = shortReader (searchOf (start .args .in-supercodes)) (start .args .limit) in
-    let told = c .before .before .before .before .before .before .before .before .before .before .before .before .outcome .given in
-    let answer = is-answered read _ _ _ _ _ (left .decode-columns .ensures) (told .0 .0) (told .0 .1 .0) (told .1) in
-    answer .four-erased
-
-enum-known-outcome-2 : tie.Need-enum-known-outcome-2
-enum-known-outcome-2 c = search needs
-
-refused-requires : tie.Need-refused-requires
-refused-requires c κs = search needs
+    let page = softColumns shortPage (start .args .soft .now) in
+    let wide = as-many-columns shortPage (start .args .soft .now) in
+    (answer-is-packed read page wide _ (asked .0) (c .before .before .if1 .taken) _ _ (asked .1) .0, start .pre .3)
 
 same-length : tie.Need-same-length
 same-length c = search needs
 
 returns : tie.Need-returns
 returns c =
-    let left = c .before .before .before .before .before .before .before .before .before .before .before .before .before .before .before in
-    let start = left .before .before .before .before .before .before .before .before .before .before .before .before in
+    let asked = c .before .before .before .before .before .before .before .before .ask-page .ensures in
+    let start = c .before .before .before .before .before .before .before .before .before .before .before .before in
     let read = shortReader (searchOf (start .args .in-supercodes)) (start .args .limit) in
-    let told = c .before .before .before .before .before .before .before .before .before .before .before .before .before .outcome .given in
-    let answer = is-answered read _ _ _ _ _ (left .decode-columns .ensures) (told .0 .0) (told .0 .1 .0) (told .1) in
-    let loaded = left .before .before .before .before .before .before .before .before .load .ensures in
-    let old = start .args .«data» .now in (
-      answered-outcome _ _ _ _ _ _ answer _ _ _ (c .before .before .totals .ensures) (c .totals2 .ensures) (toZ-ofZ (record { sfits = c .before .before .before .before .before .before .before .before .before .before .before .before .known-told .given .1 .0 .1 })) ∙ ap (λ (p : List (List ℕ)). outcomeOf (decoded short shortOuter read p)) loaded,
-      answered-data _ _ _ _ _ _ answer old _ _ (c .before .before .before .before .before .before .before .before .before .rows-data .ensures) (c .before .before .before .before .before .before .bytes-of .ensures) ∙ ap (λ (p : List (List ℕ)). dataAfter old (decoded short shortOuter read p)) loaded,
-    )
+    let page = softColumns shortPage (start .args .soft .now) in
+    let wide = as-many-columns shortPage (start .args .soft .now) in
+    (asked .0, answer-is-packed read page wide _ (asked .0) (c .before .before .before .before .before .if1 .taken) _ _ (asked .1) .1 _ _ (c .before .before .pack .ensures))
 
 returns-2 : tie.Need-returns-2
 returns-2 c =
-    let left = c .before .before .before .before in
-    let start = left .before .before .before .before .before .before .before .before .before .before .before .before in
+    let asked = c .before .before .before .ask-page .ensures in
+    let start = c .before .before .before .before .before .before .before in
     let read = shortReader (searchOf (start .args .in-supercodes)) (start .args .limit) in
-    let told = c .before .before .outcome2 .given in
-    let loaded = left .before .before .before .before .before .before .before .before .load .ensures in
-    let old = start .args .«data» .now in
-    let refusal = sym (is-refused read _ _ _ _ _ (left .decode-columns .ensures) (told .0 .0) (told .1)) in (
-      c .refused .ensures ∙ refusal-is-10 (told .0 .0) ∙ ap outcomeOf refusal ∙ ap (λ (p : List (List ℕ)). outcomeOf (decoded short shortOuter read p)) loaded,
-      refusal-keeps-the-data old (told .0 .0) ∙ ap (dataAfter old) refusal ∙ ap (λ (p : List (List ℕ)). dataAfter old (decoded short shortOuter read p)) loaded,
-    )
+    let page = softColumns shortPage (start .args .soft .now) in
+    let wide = as-many-columns shortPage (start .args .soft .now) in
+    (asked .0, refusal-is-not-packed read page wide _ (asked .0) (c .if1 .left) _)
 
 pub decode-page-spec : {M : Type 1} → statement M
 decode-page-spec =
     tie.close
     (tie.spec
-    load-requires
-    decode-columns-requires
-    enum-known-outcome
-    rows-data-requires
-    bytes-of-requires
-    totals-requires
-    totals-requires-2
-    enum-known-outcome-2
-    refused-requires
+    slice-aggregate-ask-page
+    ask-page-requires
+    slice-aggregate-pack
+    pack-requires
     same-length
     returns
     returns-2)

@@ -1,0 +1,89 @@
+-- 02, point 7, of the calls: asking gives one decode's report or refusal, and committing what it filled in, unaltered, writes that decode's bytes. Assumes nothing.
+use mathlib.Core.Bool.{Bool}
+use mathlib.Core.List.{List, []}
+use mathlib.Core.Path.{_≡_, refl, sym, ap, _∙_, subst⁻¹}
+use Prim.Native.Nat.{ℕ, _≤_}
+use native.Mathlib.Omega.{arith}
+use borrow.Author.Tests.{eq-eqb}
+use lib.Dec.{eqb}
+use lib.ListN.{length, getD}
+use Rattle.trellis.specs.Demand.{Search}
+use Rattle.concatenated.specs.Format.{shortPage}
+use Rattle.concatenated.specs.SoftPage.{softColumns}
+use Rattle.concatenated.specs.Decode.{PageAnswer, answered, refused, rows}
+use Rattle.concatenated.specs.Readers.{shortReader}
+use Rattle.concatenated.specs.Written.{bytesOfRows}
+use Rattle.concatenated.specs.Symbols.{rowsIn}
+use Rattle.concatenated.specs.OuterCode.{shortOuter, shortEncoder, ShortCodeword}
+use Rattle.concatenated.proofs.SoftPages.{as-many-columns}
+use Rattle.concatenated.proofs.OuterJoint.{outer-laws}
+use Rattle.concatenated.proofs.Symbols.{row-in-at}
+use Rattle.concatenated.proofs.Answers.{rows-are-codewords}
+use Rattle.concatenated.proofs.RowsWritten.{answered-rows-come-back, answered-symbols-are-a-word}
+use Rattle.page.specs.Outcomes.{refusedPage, outcomeOf, dataAfter, symbolsAfter}
+use Rattle.page.specs.declared.PageOutcome.{PageOutcome}
+use Rattle.questions.specs.Outcome.{after}
+use Rattle.questions.specs.declared.Outcome.{Outcome}
+use Rattle.questions.specs.declared.Outcome.the-variants.{Done, Refused}
+use Rattle.store_pages.specs.Pages.{askPage, decodedPage, PageFilled, PageDecoded, PageAsked}
+use Rattle.store_pages.specs.Committing.{heldBytes, Committed, FourWords}
+use Rattle.store_pages.proofs.Asked.{every-way, settled}
+use Rattle.store_pages.proofs.Committing.{commit-accepts-exactly}
+
+module _ (s : Search) (soft : List ℕ) (limit : ℕ) where
+  -- two calls whose buffers have their places are asked and answered alike: "asking gives one decode's report or refusal", number, place and all fields
+  pub asking-gives-one-decodes-report : (oldSymbols oldData : List ℕ) (asked decoded : PageOutcome) (newSymbols newData : List ℕ) → length oldSymbols ≡ 252 → length oldData ≡ 150
+      → PageAsked s soft limit oldSymbols asked newSymbols → PageDecoded s soft limit oldData decoded newData → asked ≡ decoded
+  asking-gives-one-decodes-report oldSymbols oldData asked decoded newSymbols newData full room ask decode =
+      ask .answer ∙ ap (λ (b : Bool). askPage soft limit b refusedPage (outcomeOf (decodedPage s soft limit))) (eq-eqb _ _ full ∙ sym (eq-eqb _ _ room)) ∙ sym (decode .answer)
+
+  -- a call that answers gives what the page's answer makes
+  answered-call : (places : ℕ) (made : List ℕ → PageAnswer → List ℕ) (old : List ℕ) (r : PageOutcome) (new : List ℕ) → PageFilled places made s soft limit old r new → r .number ≡ 0
+      → (r ≡ outcomeOf (decodedPage s soft limit)) × (new ≡ made old (decodedPage s soft limit))
+  answered-call places made old r new call done = go (askPage soft limit room Refused Done) refl (every-way soft limit room Numbered Refused Done (λ n p some few near. some) (λ most. tt))
+    where
+      room : Bool
+      room = eqb (length old) places
+
+      -- a refusal has a number other than 0
+      Numbered : Outcome → Type 0
+      Numbered Done = Unit {0}
+      Numbered (Refused n p) = 1 ≤ n
+
+      go : (o : Outcome) → o ≡ askPage soft limit room Refused Done → Numbered o → (r ≡ outcomeOf (decodedPage s soft limit)) × (new ≡ made old (decodedPage s soft limit))
+      go Done e h = (call .answer ∙ settled soft limit room refusedPage _ Done e, call .bytes ∙ settled soft limit room (λ n p. old) _ Done e)
+      go (Refused n p) e h =
+          let number : r .number ≡ n = ap (λ (x : PageOutcome). x .number) (call .answer ∙ settled soft limit room refusedPage _ (Refused n p) e) in
+          absurd (omega (arith, number, done, h))
+
+  -- the symbols that an answer filled in are four words, and their rows hold its data
+  module _ (old symbols : List ℕ) where
+    filled-in : (d : PageAnswer) → decodedPage s soft limit ≡ d → outcomeOf d .number ≡ 0 → symbols ≡ symbolsAfter old d → FourWords symbols × ((kept : List ℕ) → heldBytes symbols ≡ dataAfter kept d)
+    unfolding outcomeOf symbolsAfter dataAfter
+    filled-in (refused l) e z is = absurd (omega (arith, z))
+    filled-in (answered ls n) e z is =
+        let read = shortReader s limit in
+        let page = softColumns shortPage soft in
+        let wide = as-many-columns shortPage soft in
+        let back : rowsIn shortPage symbols ≡ rows ls = ap (rowsIn shortPage) is ∙ answered-rows-come-back shortPage shortOuter shortEncoder ShortCodeword outer-laws read page wide ls n e in (
+          record {
+            long = ap length is ∙ answered-symbols-are-a-word shortPage shortOuter shortEncoder ShortCodeword outer-laws read page wide ls n e .0;
+            words = λ i h. subst⁻¹ (ShortCodeword i) (sym (row-in-at shortPage symbols i h) ∙ ap (λ (x : List (List ℕ)). getD x i []) back)
+                (rows-are-codewords shortPage shortOuter shortEncoder ShortCodeword outer-laws read page wide ls n e i h);
+          },
+          λ kept. ap (bytesOfRows shortPage) back,
+        )
+
+  -- "committing the filled buffer unaltered writes that decode's bytes"
+  pub committing-what-was-asked-writes-the-decoded-bytes : (oldSymbols oldData kept : List ℕ) (asked decoded : PageOutcome) (committed : Outcome) (newSymbols newData written : List ℕ)
+      → length oldSymbols ≡ 252 → length oldData ≡ 150 → length kept ≡ 150
+      → PageAsked s soft limit oldSymbols asked newSymbols → asked .number ≡ 0 → PageDecoded s soft limit oldData decoded newData → Committed newSymbols kept committed written
+      → (committed ≡ Done) × (written ≡ newData)
+  committing-what-was-asked-writes-the-decoded-bytes oldSymbols oldData kept asked decoded committed newSymbols newData written full room has-room ask done decode commit =
+      let D = decodedPage s soft limit in
+      let a = answered-call 252 symbolsAfter oldSymbols asked newSymbols ask done in
+      let same = asking-gives-one-decodes-report oldSymbols oldData asked decoded newSymbols newData full room ask decode in
+      let b = answered-call 150 dataAfter oldData decoded newData decode (ap (λ (x : PageOutcome). x .number) (sym same) ∙ done) in
+      let filled = filled-in oldSymbols newSymbols D refl (ap (λ (x : PageOutcome). x .number) (sym (a .0)) ∙ done) (a .1) in
+      let taken = commit-accepts-exactly newSymbols kept committed written commit .1 (filled .0, has-room) in
+      (taken, commit .bytes ∙ ap (λ (o : Outcome). after o (heldBytes newSymbols) kept) (sym (commit .answer) ∙ taken) ∙ filled .1 oldData ∙ sym (b .1))
