@@ -1,4 +1,5 @@
 -- For the code's contracts: the calls' answers as the numbers that C gets. Assumes nothing.
+use Rattle.page.specs.Outcomes.{Buffer}
 use Rattle.questions.specs.Answer.{number, place, value}
 use Rattle.questions.specs.declared.Answer.{Answer}
 use Rattle.store_searches.specs.declared.SearchAnswer.{SearchAnswer}
@@ -10,7 +11,6 @@ use Rattle.questions.specs.declared.Outcome.{Outcome}
 use Rattle.questions.specs.Outcome as outcomes
 use Rattle.trellis.specs.Demand.{Search}
 use Rattle.page.specs.declared.PageOutcome.{PageOutcome}
-use Rattle.concatenated.specs.Decode.{PageAnswer}
 use Rattle.store_pages.specs.Pages.{PageFilled}
 use Rattle.entries.specs.declared.PageReply.{PageReply}
 use Rattle.entries.specs.declared.Reply.{Reply}
@@ -36,8 +36,8 @@ pageReplyOf o =
     let r = o .report in
     record { number = o .number; place = o .place; steps = r .steps; changed = r .changed; erased = r .erased; «changed_marks» = r .«changed_marks»; «erased_marks» = r .«erased_marks»; low = r .low }
 
--- a page call told r of the outcome that its contract settles, and left `new` in the place of `old`: it fills so many places with what `made` makes of the page's answer
-pub record PageReplied (places : ℕ) (made : List ℕ → PageAnswer → List ℕ) (s : Search) (soft : List ℕ) (limit : ℕ) (old : List ℕ) (r : PageReply) (new : List ℕ) : Type 0 where
+-- a page call told r of the outcome that its contract settles, and left `new` in the place of `old`
+pub record PageReplied (B : Buffer) (s : Search) (soft : List ℕ) (limit : ℕ) (old : List ℕ) (r : PageReply) (new : List ℕ) : Type 0 where
   pub outcome : PageOutcome
-  pub filled : PageFilled places made s soft limit old outcome new
+  pub filled : PageFilled B s soft limit old outcome new
   pub told : r ≡ pageReplyOf outcome

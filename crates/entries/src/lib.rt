@@ -16,7 +16,7 @@ ghost use Rattle.concatenated.specs.Places.{placedAt};
 ghost use Rattle.concatenated.specs.SoftPage.{columnPart};
 ghost use Rattle.concatenated.specs.Written.{writtenPage};
 ghost use Rattle.concatenated.specs.OuterCode.{shortEncoder};
-ghost use Rattle.page.specs.Outcomes.{dataAfter, symbolsAfter};
+ghost use Rattle.page.specs.Outcomes.{dataBuffer, symbolBuffer};
 ghost use Rattle.store_pages.specs.Pages.{encodePageAnswer};
 ghost use Rattle.store_pages.specs.Committing.{commitAnswer, heldBytes};
 use page::PageOutcome;
@@ -209,28 +209,28 @@ fn numbers_of_page(outcome: PageOutcome) -> PageReply
 
 #[no_mangle]
 pub extern "C" fn entry_decode_page(soft: &[u8], limit: u64, data: &mut [u8]) -> PageReply
-    ensures { λ r. ⌜ PageReplied 150 dataAfter supercode (now (soft .entry)) limit (now («data» .entry)) r (now («data» .exit)) ⌝ }
+    ensures { λ r. ⌜ PageReplied dataBuffer supercode (now (soft .entry)) limit (now («data» .entry)) r (now («data» .exit)) ⌝ }
 {
     numbers_of_page(store_pages::decode_page(soft, limit, data))
 }
 
 #[no_mangle]
 pub extern "C" fn entry_decode_page_whole(soft: &[u8], limit: u64, data: &mut [u8]) -> PageReply
-    ensures { λ r. ⌜ PageReplied 150 dataAfter whole (now (soft .entry)) limit (now («data» .entry)) r (now («data» .exit)) ⌝ }
+    ensures { λ r. ⌜ PageReplied dataBuffer whole (now (soft .entry)) limit (now («data» .entry)) r (now («data» .exit)) ⌝ }
 {
     numbers_of_page(store_pages::decode_page_whole(soft, limit, data))
 }
 
 #[no_mangle]
 pub extern "C" fn entry_ask_page(soft: &[u8], limit: u64, symbols: &mut [u8]) -> PageReply
-    ensures { λ r. ⌜ PageReplied 252 symbolsAfter supercode (now (soft .entry)) limit (now (symbols .entry)) r (now (symbols .exit)) ⌝ }
+    ensures { λ r. ⌜ PageReplied symbolBuffer supercode (now (soft .entry)) limit (now (symbols .entry)) r (now (symbols .exit)) ⌝ }
 {
     numbers_of_page(store_pages::ask_page(soft, limit, symbols))
 }
 
 #[no_mangle]
 pub extern "C" fn entry_ask_page_whole(soft: &[u8], limit: u64, symbols: &mut [u8]) -> PageReply
-    ensures { λ r. ⌜ PageReplied 252 symbolsAfter whole (now (soft .entry)) limit (now (symbols .entry)) r (now (symbols .exit)) ⌝ }
+    ensures { λ r. ⌜ PageReplied symbolBuffer whole (now (soft .entry)) limit (now (symbols .entry)) r (now (symbols .exit)) ⌝ }
 {
     numbers_of_page(store_pages::ask_page_whole(soft, limit, symbols))
 }

@@ -17,7 +17,7 @@ use Rattle.concatenated.specs.Marks.{changedMarks, erasedMarks}
 use Rattle.concatenated.specs.Arrays.{SoftColumns, Rows}
 use Rattle.concatenated.specs.OuterCode.{shortOuter, shortEncoder, ShortCodeword}
 use Rattle.levels.specs.Levels.{Ends, ColumnsDone}
-use Rattle.page.specs.Outcomes.{changedTotals, erasedTotals, refusedPage, outcomeOf, dataAfter, symbolsAfter}
+use Rattle.page.specs.Outcomes.{changedTotals, erasedTotals, refusedPage, outcomeOf, dataBuffer, filled, symbolBuffer}
 use Rattle.levels.specs.declared.ColumnsOutcome.{ColumnsOutcome}
 use Rattle.levels.specs.declared.ColumnsOutcome.the-variants.{Answered, Refused}
 use Rattle.page.specs.declared.PageOutcome.{PageOutcome}
@@ -81,8 +81,8 @@ pub refusal-is-10 : (l : ℕ) → refusedPage 10 l ≡ outcomeOf (refused l)
 unfolding outcomeOf
 refusal-is-10 l = refl
 
-pub refusal-keeps-the-symbols : (old : List ℕ) (l : ℕ) → old ≡ symbolsAfter old (refused l)
-unfolding symbolsAfter
+pub refusal-keeps-the-symbols : (old : List ℕ) (l : ℕ) → old ≡ filled symbolBuffer old (refused l)
+unfolding filled
 refusal-keeps-the-symbols old l = refl
 
 -- the outcome and the symbols of an answer
@@ -101,9 +101,9 @@ module _ (d : PageAnswer) (n : ℕ) (z : ℤ) (held : List (List ℕ)) (changed 
       the-outcome : List ℕ → List ℕ → List ℕ → List ℕ → ℤ → PageOutcome
       the-outcome cs es changed erased low = record { number = 0; place = 0; report = record { steps = n; changed = cs; erased = es; «changed_marks» = changed; «erased_marks» = erased; low = low } }
 
-  pub answered-symbols : (old new : List ℕ) → new ≡ rowAfterRow held → new ≡ symbolsAfter old d
-  unfolding symbolsAfter
-  answered-symbols old new e = e ∙ ap rowAfterRow (a .rows-are) ∙ ap (symbolsAfter old) (sym (a .is))
+  pub answered-symbols : (old new : List ℕ) → new ≡ rowAfterRow held → new ≡ filled symbolBuffer old d
+  unfolding filled
+  answered-symbols old new e = e ∙ ap rowAfterRow (a .rows-are) ∙ ap (filled symbolBuffer old) (sym (a .is))
 
 -- ---- symbols are packed
 
@@ -118,13 +118,13 @@ fronts-are-a-word symbols fronts word e =
 -- decoding is asking and packing: what was asked for is an outcome and symbols
 module _ (read : Reader) (page : List (List ℕ)) (wide : length page ≡ 63) (o : PageOutcome) (is : o ≡ outcomeOf (decoded short shortOuter read page)) where
   -- an answer's symbols are in range, and the bytes of their rows are its data
-  pub answer-is-packed : o .number ≡ 0 → (old symbols : List ℕ) → symbols ≡ symbolsAfter old (decoded short shortOuter read page)
-      → WordOf 64 252 symbols × ((kept new : List ℕ) → new ≡ bytesOfRows shortPage (rowsIn shortPage symbols) → new ≡ dataAfter kept (decoded short shortOuter read page))
-  unfolding outcomeOf symbolsAfter dataAfter
+  pub answer-is-packed : o .number ≡ 0 → (old symbols : List ℕ) → symbols ≡ filled symbolBuffer old (decoded short shortOuter read page)
+      → WordOf 64 252 symbols × ((kept new : List ℕ) → new ≡ bytesOfRows shortPage (rowsIn shortPage symbols) → new ≡ filled dataBuffer kept (decoded short shortOuter read page))
+  unfolding outcomeOf filled
   answer-is-packed done old symbols = go (decoded short shortOuter read page) refl (sym (ap (λ (x : PageOutcome). x .number) is) ∙ done)
     where
-      go : (d : PageAnswer) → decoded short shortOuter read page ≡ d → outcomeOf d .number ≡ 0 → symbols ≡ symbolsAfter old d
-          → WordOf 64 252 symbols × ((kept new : List ℕ) → new ≡ bytesOfRows shortPage (rowsIn shortPage symbols) → new ≡ dataAfter kept d)
+      go : (d : PageAnswer) → decoded short shortOuter read page ≡ d → outcomeOf d .number ≡ 0 → symbols ≡ filled symbolBuffer old d
+          → WordOf 64 252 symbols × ((kept new : List ℕ) → new ≡ bytesOfRows shortPage (rowsIn shortPage symbols) → new ≡ filled dataBuffer kept d)
       go (refused l) ed z es = absurd (omega (arith, z))
       go (answered ls n) ed z es = (
         subst⁻¹ (WordOf 64 252) es (answered-symbols-are-a-word shortPage shortOuter shortEncoder ShortCodeword outer-laws read page wide ls n ed),
@@ -132,10 +132,10 @@ module _ (read : Reader) (page : List (List ℕ)) (wide : length page ≡ 63) (o
             ∙ ap (bytesOfRows shortPage) (answered-rows-come-back shortPage shortOuter shortEncoder ShortCodeword outer-laws read page wide ls n ed),
       )
 
-  pub refusal-is-not-packed : (o .number ≡ 0 → ⊥) → (kept : List ℕ) → kept ≡ dataAfter kept (decoded short shortOuter read page)
-  unfolding outcomeOf dataAfter
+  pub refusal-is-not-packed : (o .number ≡ 0 → ⊥) → (kept : List ℕ) → kept ≡ filled dataBuffer kept (decoded short shortOuter read page)
+  unfolding outcomeOf filled
   refusal-is-not-packed other kept = go (decoded short shortOuter read page) (λ z. other (ap (λ (x : PageOutcome). x .number) is ∙ z))
     where
-      go : (d : PageAnswer) → (outcomeOf d .number ≡ 0 → ⊥) → kept ≡ dataAfter kept d
+      go : (d : PageAnswer) → (outcomeOf d .number ≡ 0 → ⊥) → kept ≡ filled dataBuffer kept d
       go (answered ls n) f = absurd (f refl)
       go (refused l) f = refl

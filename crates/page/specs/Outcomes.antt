@@ -42,12 +42,20 @@ unfoldable pub outcomeOf : PageAnswer → PageOutcome
 outcomeOf (answered ls n) = record { number = 0; place = 0; report = reportOf ls n }
 outcomeOf (refused l) = refusedPage 10 l
 
--- the bytes of the answer; after a refusal the old ones
-unfoldable pub dataAfter : List ℕ → PageAnswer → List ℕ
-dataAfter old (answered ls n) = bytesOfRows shortPage (rows ls)
-dataAfter old (refused l) = old
+-- a buffer that a page's answer fills: how many bytes it has, and what is made for it of the rows
+pub record Buffer : Type 0 where
+  pub places : ℕ
+  pub made : List (List ℕ) → List ℕ
 
--- 02, point 7: "252 corrected symbols, row after row"; after a refusal the old ones
-unfoldable pub symbolsAfter : List ℕ → PageAnswer → List ℕ
-symbolsAfter old (answered ls n) = rowAfterRow (rows ls)
-symbolsAfter old (refused l) = old
+-- 01: the 150 bytes of a page answer
+abbrev pub dataBuffer : Buffer
+dataBuffer = record { places = 150; made = bytesOfRows shortPage }
+
+-- 02, point 7: "252 corrected symbols, row after row"
+abbrev pub symbolBuffer : Buffer
+symbolBuffer = record { places = 252; made = rowAfterRow }
+
+-- the buffer after the answer; after a refusal the old bytes
+unfoldable pub filled : Buffer → List ℕ → PageAnswer → List ℕ
+filled b old (answered ls n) = b .made (rows ls)
+filled b old (refused l) = old

@@ -14,7 +14,7 @@ ghost use Rattle.concatenated.specs.Symbols.{rowsIn, lowestNoWord};
 ghost use Rattle.search.specs.Outcomes.{searchOf};
 ghost use Rattle.concatenated.specs.OuterCode.{shortOuter, shortEncoder, isShortCodeword};
 ghost use Rattle.reedsolomon.specs.Search.{WordOf};
-ghost use Rattle.page.specs.Outcomes.{refusedPage, outcomeOf, dataAfter, symbolsAfter};
+ghost use Rattle.page.specs.Outcomes.{refusedPage, outcomeOf, dataBuffer, filled, symbolBuffer};
 use coding::data;
 use coding::writing;
 use levels::ColumnsOutcome;
@@ -90,7 +90,7 @@ pub fn encode_page(data: &[u8], out: &mut [u8])
 pub fn ask_page(soft: &[u8], limit: u64, in_supercodes: bool, symbols: &mut [u8]) -> PageOutcome
     requires { ⌜ (length (now soft) ≡ 1890) × Soft (now soft) × (limit ≤ 2000) × (length (now symbols) ≡ 252) ⌝ }
     ensures { λ r. ⌜ r ≡ outcomeOf (decoded short shortOuter (shortReader (searchOf in_supercodes) limit) (softColumns shortPage (now (soft .entry)))) ⌝ }
-    ensures { λ r. ⌜ now (symbols .exit) ≡ symbolsAfter (now (symbols .entry)) (decoded short shortOuter (shortReader (searchOf in_supercodes) limit) (softColumns shortPage (now (soft .entry)))) ⌝ }
+    ensures { λ r. ⌜ now (symbols .exit) ≡ filled symbolBuffer (now (symbols .entry)) (decoded short shortOuter (shortReader (searchOf in_supercodes) limit) (softColumns shortPage (now (soft .entry)))) ⌝ }
 {
     let mut work = [[0u8; 30]; 63];
     look::load(soft, &mut work);
@@ -162,7 +162,7 @@ pub fn pack(symbols: &[u8], data: &mut [u8])
 pub fn decode_page(soft: &[u8], limit: u64, in_supercodes: bool, data: &mut [u8]) -> PageOutcome
     requires { ⌜ (length (now soft) ≡ 1890) × Soft (now soft) × (limit ≤ 2000) × (length (now «data») ≡ 150) ⌝ }
     ensures { λ r. ⌜ r ≡ outcomeOf (decoded short shortOuter (shortReader (searchOf in_supercodes) limit) (softColumns shortPage (now (soft .entry)))) ⌝ }
-    ensures { λ r. ⌜ now («data» .exit) ≡ dataAfter (now («data» .entry)) (decoded short shortOuter (shortReader (searchOf in_supercodes) limit) (softColumns shortPage (now (soft .entry)))) ⌝ }
+    ensures { λ r. ⌜ now («data» .exit) ≡ filled dataBuffer (now («data» .entry)) (decoded short shortOuter (shortReader (searchOf in_supercodes) limit) (softColumns shortPage (now (soft .entry)))) ⌝ }
 {
     let mut symbols = [0u8; 252];
     let outcome = ask_page(soft, limit, in_supercodes, &mut symbols);

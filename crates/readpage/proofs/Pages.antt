@@ -9,7 +9,7 @@ use lib.Dec.{leb}
 use lib.ListN.{length}
 use Rattle.trellis.specs.Demand.{Search}
 use Rattle.concatenated.specs.Decode.{PageAnswer, answered, refused}
-use Rattle.page.specs.Outcomes.{outcomeOf, dataAfter}
+use Rattle.page.specs.Outcomes.{outcomeOf, dataBuffer, filled}
 use Rattle.page.specs.declared.PageOutcome.{PageOutcome}
 use Rattle.page.specs.declared.Report.{Report}
 use Rattle.questions.specs.Questions.{firstAbove}
@@ -27,8 +27,8 @@ abbrev reportText : Report → List ℕ → List ℕ
 reportText r bytes = pageText (r .steps) (r .changed) (r .«changed_marks») (r .erased) (r .«erased_marks») bytes
 
 answered-text : (old : List ℕ) (d : PageAnswer) → outcomeOf d .number ≡ 0
-    → reportText (outcomeOf d .report) (dataAfter old d) ≡ decodedText d
-unfolding outcomeOf dataAfter decodedText
+    → reportText (outcomeOf d .report) (filled dataBuffer old d) ≡ decodedText d
+unfolding outcomeOf filled decodedText
 answered-text old (answered ls n) none = refl
 answered-text old (refused l) none = absurd (omega (arith, none))
 
@@ -38,7 +38,7 @@ module _ (s : Search) (soft old new : List ℕ) (r : PageOutcome) (decoded : Pag
   outcome : r ≡ outcomeOf (decodedPage s soft defaultLimit)
   outcome = decoded .answer ∙ simp (eq-eqb _ _ long, eq-eqb _ _ room, five)
 
-  bytes : new ≡ dataAfter old (decodedPage s soft defaultLimit)
+  bytes : new ≡ filled dataBuffer old (decodedPage s soft defaultLimit)
   bytes = decoded .bytes ∙ simp (eq-eqb _ _ long, eq-eqb _ _ room, five)
 
   pub text-of-refused : (r .number ≡ 0 → ⊥) → refusedLine (r .number) (r .place) ≡ decodedText (decodedPage s soft defaultLimit)

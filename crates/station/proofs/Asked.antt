@@ -7,6 +7,7 @@ use native.Mathlib.Omega.{arith}
 use borrow.Author.Tests.{eq-eqb, eqb-true}
 use lib.Dec.{eqb}
 use lib.ListN.{length}
+use Rattle.page.specs.Outcomes.{Buffer}
 use Rattle.questions.specs.Questions.{ask}
 use Rattle.store_pages.specs.Pages.{askPage}
 use Rattle.station.specs.PageReturned.{haveRoom}
@@ -29,10 +30,10 @@ number-is-small soft report n = go (eqb (length soft) 1890) (eqb (length report)
     go true false e = omega (arith, e)
     go true true e = omega (arith, e)
 
-module _ (places : ℕ) (soft : List ℕ) (limit : ℕ) (buffer report : List ℕ) where
+module _ (B : Buffer) (soft : List ℕ) (limit : ℕ) (buffer report : List ℕ) where
   -- with room for the report they are the questions of the call
-  pub report-has-room : length report ≡ 78 → haveRoom places buffer report ≡ eqb (length buffer) places
-  report-has-room room = ap (λ (b : Bool). eqb (length buffer) places && b) (eq-eqb _ _ room) ∙ and-true (eqb (length buffer) places)
+  pub report-has-room : length report ≡ 78 → haveRoom B buffer report ≡ eqb (length buffer) (B .places)
+  report-has-room room = ap (λ (b : Bool). eqb (length buffer) (B .places) && b) (eq-eqb _ _ room) ∙ and-true (eqb (length buffer) (B .places))
 
   -- none of them is refused, or the first no is their number
   pub lengths-are-right : (n : ℕ) → n ≡ ask (eqb (length soft) 1890) 1 (ask (eqb (length report) 78) 2 0) → n ≡ 0 → length report ≡ 78
@@ -44,8 +45,8 @@ module _ (places : ℕ) (soft : List ℕ) (limit : ℕ) (buffer report : List �
       go true true e = refl
 
   pub first-no : (n : ℕ) → n ≡ ask (eqb (length soft) 1890) 1 (ask (eqb (length report) 78) 2 0) → (n ≡ 0 → ⊥)
-      → (A : Type 0) (refusal : ℕ → ℕ → A) (next : A) → askPage soft limit (haveRoom places buffer report) refusal next ≡ refusal n 0
-  first-no n e other A refusal next = go (eqb (length soft) 1890) (eqb (length report) 78) (eqb (length buffer) places) _ e
+      → (A : Type 0) (refusal : ℕ → ℕ → A) (next : A) → askPage soft limit (haveRoom B buffer report) refusal next ≡ refusal n 0
+  first-no n e other A refusal next = go (eqb (length soft) 1890) (eqb (length report) 78) (eqb (length buffer) (B .places)) _ e
     where
       go : (a b c : Bool) (rest : A) → n ≡ ask a 1 (ask b 2 0) → ask a (refusal 1 0) (ask (c && b) (refusal 2 0) rest) ≡ refusal n 0
       go false b c rest e = ap (λ (k : ℕ). refusal k 0) (sym e)

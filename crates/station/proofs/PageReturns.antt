@@ -7,8 +7,7 @@ use borrow.Author.Tests.{ne-eqb}
 use lib.Dec.{eqb}
 use lib.ListN.{length}
 use Rattle.trellis.specs.Demand.{Search, supercode}
-use Rattle.concatenated.specs.Decode.{PageAnswer}
-use Rattle.page.specs.Outcomes.{refusedPage, outcomeOf}
+use Rattle.page.specs.Outcomes.{refusedPage, outcomeOf, Buffer, filled}
 use Rattle.page.specs.declared.PageOutcome.{PageOutcome}
 use Rattle.questions.specs.Questions.{ask}
 use Rattle.store_pages.specs.Pages.{askPage, decodedPage, PageFilled}
@@ -18,16 +17,16 @@ use Rattle.station.proofs.Asked.{first-no, report-has-room}
 use Rattle.station.proofs.Places.{SmallPage, page-small}
 
 -- what a page call answers fits in what the entry returns
-pub small : {places : ℕ} {made : List ℕ → PageAnswer → List ℕ} {s : Search} {soft old new : List ℕ} {most : ℕ} {o : PageOutcome} → PageFilled places made s soft most old o new → SmallPage o
-small {places} {s = s} {soft} {old} {most = most} page = subst⁻¹ SmallPage (page .answer) (page-small s soft most (eqb (length old) places))
+pub small : {B : Buffer} {s : Search} {soft old new : List ℕ} {most : ℕ} {o : PageOutcome} → PageFilled B s soft most old o new → SmallPage o
+small {B} {s = s} {soft} {old} {most = most} page = subst⁻¹ SmallPage (page .answer) (page-small s soft most (eqb (length old) (B .places)))
 
-module _ (places : ℕ) (made : List ℕ → PageAnswer → List ℕ) (soft : List ℕ) (limit : ℕ) (buffer report : List ℕ) where
+module _ (B : Buffer) (soft : List ℕ) (limit : ℕ) (buffer report : List ℕ) where
   -- the entry itself refuses a length
   pub refused-by-length : (n : ℕ) → n ≡ ask (eqb (length soft) 1890) 1 (ask (eqb (length report) 78) 2 0) → (n ≡ 0 → ⊥) → {r : ℕ} → r ≡ returned n 0
-      → PageReturned places made soft limit buffer report r buffer report
+      → PageReturned B soft limit buffer report r buffer report
   refused-by-length n asked some e =
-      let no = first-no places soft limit buffer report n asked some in
-      let due : pageAnswer places soft limit buffer report ≡ refusedPage n 0 = no PageOutcome refusedPage _ in
+      let no = first-no B soft limit buffer report n asked some in
+      let due : pageAnswer B soft limit buffer report ≡ refusedPage n 0 = no PageOutcome refusedPage _ in
       record {
         answer = e ∙ ap (λ (x : PageOutcome). returned (x .number) (x .place)) (sym due);
         buffer-is = sym (no (List ℕ) (λ n p. buffer) _);
@@ -35,14 +34,14 @@ module _ (places : ℕ) (made : List ℕ → PageAnswer → List ℕ) (soft : Li
       }
 
   -- or returns what the call answered
-  pub returned-by-the-call : length report ≡ 78 → (o : PageOutcome) (new : List ℕ) → PageFilled places made supercode soft limit buffer o new → {r : ℕ} → r ≡ returned (o .number) (o .place)
-      → (newReport : List ℕ) → newReport ≡ reportAfter report o → PageReturned places made soft limit buffer report r new newReport
+  pub returned-by-the-call : length report ≡ 78 → (o : PageOutcome) (new : List ℕ) → PageFilled B supercode soft limit buffer o new → {r : ℕ} → r ≡ returned (o .number) (o .place)
+      → (newReport : List ℕ) → newReport ≡ reportAfter report o → PageReturned B soft limit buffer report r new newReport
   returned-by-the-call room o new page e newReport is =
       let D = decodedPage supercode soft limit in
-      let same-room = report-has-room places soft limit buffer report room in
-      let same : o ≡ pageAnswer places soft limit buffer report = page .answer ∙ ap (λ (b : Bool). askPage soft limit b refusedPage (outcomeOf D)) (sym same-room) in
+      let same-room = report-has-room B soft limit buffer report room in
+      let same : o ≡ pageAnswer B soft limit buffer report = page .answer ∙ ap (λ (b : Bool). askPage soft limit b refusedPage (outcomeOf D)) (sym same-room) in
       record {
         answer = e ∙ ap (λ (x : PageOutcome). returned (x .number) (x .place)) same;
-        buffer-is = page .bytes ∙ ap (λ (b : Bool). askPage soft limit b (λ n p. buffer) (made buffer D)) (sym same-room);
+        buffer-is = page .bytes ∙ ap (λ (b : Bool). askPage soft limit b (λ n p. buffer) (filled B buffer D)) (sym same-room);
         report-is = is ∙ ap (reportAfter report) same;
       }

@@ -12,9 +12,8 @@ use Rattle.trellis.specs.Demand.{supercode}
 use Rattle.packing.specs.Packing.{joined, sixteenBits, signedOf}
 use Rattle.packing.proofs.Signed.{signed-back, sixteen-bits-few}
 use Rattle.concatenated.specs.Data.{digits}
-use Rattle.concatenated.specs.Decode.{PageAnswer}
 use Rattle.concatenated.proofs.Digits.{digits-length}
-use Rattle.page.specs.Outcomes.{refusedPage, outcomeOf}
+use Rattle.page.specs.Outcomes.{refusedPage, outcomeOf, Buffer}
 use Rattle.page.specs.declared.PageOutcome.{PageOutcome}
 use Rattle.page.specs.declared.Report.{Report}
 use Rattle.store_pages.specs.Pages.{decodedPage}
@@ -31,15 +30,15 @@ use Rattle.station.proofs.Steps.{steps-are-few}
 abbrev ReportMarked : PageOutcome → Type 0
 ReportMarked o = Marked (o .report)
 
-answer-is-marked : (places : ℕ) (soft : List ℕ) (limit : ℕ) (buffer report : List ℕ) → ReportMarked (pageAnswer places soft limit buffer report)
-answer-is-marked places soft limit buffer report =
-    every-way soft limit (haveRoom places buffer report) ReportMarked refusedPage (outcomeOf (decodedPage supercode soft limit)) (λ n p some few near. refusals-are-marked)
+answer-is-marked : (B : Buffer) (soft : List ℕ) (limit : ℕ) (buffer report : List ℕ) → ReportMarked (pageAnswer B soft limit buffer report)
+answer-is-marked B soft limit buffer report =
+    every-way soft limit (haveRoom B buffer report) ReportMarked refusedPage (outcomeOf (decodedPage supercode soft limit)) (λ n p some few near. refusals-are-marked)
     (λ most. answers-are-marked supercode soft limit (decodedPage supercode soft limit) refl)
 
 -- the low point has 16 bits
-answer-is-near : (places : ℕ) (soft : List ℕ) (limit : ℕ) (buffer report : List ℕ) → mag (pageAnswer places soft limit buffer report .report .low) < 32768
-answer-is-near places soft limit buffer report =
-    every-way soft limit (haveRoom places buffer report) (λ (o : PageOutcome). mag (o .report .low) < 32768) refusedPage (outcomeOf (decodedPage supercode soft limit)) (λ n p some few near. omega arith)
+answer-is-near : (B : Buffer) (soft : List ℕ) (limit : ℕ) (buffer report : List ℕ) → mag (pageAnswer B soft limit buffer report .report .low) < 32768
+answer-is-near B soft limit buffer report =
+    every-way soft limit (haveRoom B buffer report) (λ (o : PageOutcome). mag (o .report .low) < 32768) refusedPage (outcomeOf (decodedPage supercode soft limit)) (λ n p some few near. omega arith)
     (λ most. omega (arith, mag-le (outcomeOf (decodedPage supercode soft limit) .report .low), answers-are-near supercode soft limit (decodedPage supercode soft limit) refl))
 
 totals-in : (r : Report) (level : ℕ) → level < 4 → (changedTotalIn (reportBytes r) level ≡ getD (r .changed) level 0) × (erasedTotalIn (reportBytes r) level ≡ getD (r .erased) level 0)
@@ -77,10 +76,10 @@ bytes-hold r few marked near =
     }
 
 -- the entry returned 0: the report that it left holds that of the page
-pub report-is-read-back : (places : ℕ) (made : List ℕ → PageAnswer → List ℕ) (soft : List ℕ) (limit : ℕ) (buffer report : List ℕ) (r : ℕ) (newBuffer newReport : List ℕ)
-    → PageReturned places made soft limit buffer report r newBuffer newReport → r ≡ 0 → Holds newReport (pageAnswer places soft limit buffer report .report)
-report-is-read-back places made soft limit buffer report r newBuffer newReport returned done =
-    let d = pageAnswer places soft limit buffer report in
+pub report-is-read-back : (B : Buffer) (soft : List ℕ) (limit : ℕ) (buffer report : List ℕ) (r : ℕ) (newBuffer newReport : List ℕ)
+    → PageReturned B soft limit buffer report r newBuffer newReport → r ≡ 0 → Holds newReport (pageAnswer B soft limit buffer report .report)
+report-is-read-back B soft limit buffer report r newBuffer newReport returned done =
+    let d = pageAnswer B soft limit buffer report in
     let answered : d .number ≡ 0 = omega (arith, returned .answer, done) in
     let is : newReport ≡ reportBytes (d .report) = returned .report-is ∙ simp (eq-eqb _ _ answered) in
-    subst⁻¹ (λ (x : List ℕ). Holds x (d .report)) is (bytes-hold (d .report) (omega (arith, steps-are-few places soft limit buffer report .1)) (answer-is-marked places soft limit buffer report) (answer-is-near places soft limit buffer report))
+    subst⁻¹ (λ (x : List ℕ). Holds x (d .report)) is (bytes-hold (d .report) (omega (arith, steps-are-few B soft limit buffer report .1)) (answer-is-marked B soft limit buffer report) (answer-is-near B soft limit buffer report))

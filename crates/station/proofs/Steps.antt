@@ -14,7 +14,7 @@ use Rattle.concatenated.specs.Outer.{RowDecoder}
 use Rattle.concatenated.specs.OuterCode.{shortOuter}
 use Rattle.concatenated.specs.Readers.{shortReader}
 use Rattle.concatenated.specs.Decode.{Reader, Level, State, going, stopped, count, steps, rowOff, decodedRow, settle, onward, run, outcome, decoded}
-use Rattle.page.specs.Outcomes.{refusedPage, outcomeOf}
+use Rattle.page.specs.Outcomes.{refusedPage, outcomeOf, Buffer}
 use Rattle.page.specs.declared.PageOutcome.{PageOutcome}
 use Rattle.readings.proofs.RowReading.{count-within-the-limit}
 use Rattle.concatenated.proofs.SoftPages.{as-many-columns}
@@ -68,9 +68,9 @@ abbrev pub FewSteps : ℕ → PageOutcome → Type 0
 FewSteps limit o = (o .report .steps ≤ 252 * limit) × (o .report .steps ≤ 504000)
 
 -- 01: "all counts summed, a spent column counting the limit": 63 columns at four levels, the limit each
-pub steps-are-few : (places : ℕ) (soft : List ℕ) (limit : ℕ) (buffer report : List ℕ) → FewSteps limit (pageAnswer places soft limit buffer report)
-steps-are-few places soft limit buffer report =
-    every-way soft limit (haveRoom places buffer report) (FewSteps limit) refusedPage (outcomeOf (decodedPage supercode soft limit)) (λ n p some few near. (omega arith, omega arith)) (λ most.
+pub steps-are-few : (B : Buffer) (soft : List ℕ) (limit : ℕ) (buffer report : List ℕ) → FewSteps limit (pageAnswer B soft limit buffer report)
+steps-are-few B soft limit buffer report =
+    every-way soft limit (haveRoom B buffer report) (FewSteps limit) refusedPage (outcomeOf (decodedPage supercode soft limit)) (λ n p some few near. (omega arith, omega arith)) (λ most.
     let few : outcomeOf (decodedPage supercode soft limit) .report .steps ≤ 252 * limit =
     decoded-within short shortOuter (shortReader supercode limit) limit (λ i c h. count-within-the-limit supercode limit i h c) (softColumns shortPage soft) (omega (arith, as-many-columns shortPage soft)) (omega arith)
     in (few, omega (arith, few, most)))

@@ -20,7 +20,7 @@ use Rattle.concatenated.proofs.OuterJoint.{outer-laws}
 use Rattle.concatenated.proofs.Symbols.{row-in-at}
 use Rattle.concatenated.proofs.Answers.{rows-are-codewords}
 use Rattle.concatenated.proofs.RowsWritten.{answered-rows-come-back, answered-symbols-are-a-word}
-use Rattle.page.specs.Outcomes.{refusedPage, outcomeOf, dataAfter, symbolsAfter}
+use Rattle.page.specs.Outcomes.{refusedPage, outcomeOf, dataBuffer, filled, symbolBuffer, Buffer}
 use Rattle.page.specs.declared.PageOutcome.{PageOutcome}
 use Rattle.questions.specs.Outcome.{after}
 use Rattle.questions.specs.declared.Outcome.{Outcome}
@@ -38,19 +38,19 @@ module _ (s : Search) (soft : List ℕ) (limit : ℕ) where
       ask .answer ∙ ap (λ (b : Bool). askPage soft limit b refusedPage (outcomeOf (decodedPage s soft limit))) (eq-eqb _ _ full ∙ sym (eq-eqb _ _ room)) ∙ sym (decode .answer)
 
   -- a call that answers gives what the page's answer makes
-  answered-call : (places : ℕ) (made : List ℕ → PageAnswer → List ℕ) (old : List ℕ) (r : PageOutcome) (new : List ℕ) → PageFilled places made s soft limit old r new → r .number ≡ 0
-      → (r ≡ outcomeOf (decodedPage s soft limit)) × (new ≡ made old (decodedPage s soft limit))
-  answered-call places made old r new call done = go (askPage soft limit room Refused Done) refl (every-way soft limit room Numbered Refused Done (λ n p some few near. some) (λ most. tt))
+  answered-call : (B : Buffer) (old : List ℕ) (r : PageOutcome) (new : List ℕ) → PageFilled B s soft limit old r new → r .number ≡ 0
+      → (r ≡ outcomeOf (decodedPage s soft limit)) × (new ≡ filled B old (decodedPage s soft limit))
+  answered-call B old r new call done = go (askPage soft limit room Refused Done) refl (every-way soft limit room Numbered Refused Done (λ n p some few near. some) (λ most. tt))
     where
       room : Bool
-      room = eqb (length old) places
+      room = eqb (length old) (B .places)
 
       -- a refusal has a number other than 0
       Numbered : Outcome → Type 0
       Numbered Done = Unit {0}
       Numbered (Refused n p) = 1 ≤ n
 
-      go : (o : Outcome) → o ≡ askPage soft limit room Refused Done → Numbered o → (r ≡ outcomeOf (decodedPage s soft limit)) × (new ≡ made old (decodedPage s soft limit))
+      go : (o : Outcome) → o ≡ askPage soft limit room Refused Done → Numbered o → (r ≡ outcomeOf (decodedPage s soft limit)) × (new ≡ filled B old (decodedPage s soft limit))
       go Done e h = (call .answer ∙ settled soft limit room refusedPage _ Done e, call .bytes ∙ settled soft limit room (λ n p. old) _ Done e)
       go (Refused n p) e h =
           let number : r .number ≡ n = ap (λ (x : PageOutcome). x .number) (call .answer ∙ settled soft limit room refusedPage _ (Refused n p) e) in
@@ -58,8 +58,8 @@ module _ (s : Search) (soft : List ℕ) (limit : ℕ) where
 
   -- the symbols that an answer filled in are four words, and their rows hold its data
   module _ (old symbols : List ℕ) where
-    filled-in : (d : PageAnswer) → decodedPage s soft limit ≡ d → outcomeOf d .number ≡ 0 → symbols ≡ symbolsAfter old d → FourWords symbols × ((kept : List ℕ) → heldBytes symbols ≡ dataAfter kept d)
-    unfolding outcomeOf symbolsAfter dataAfter
+    filled-in : (d : PageAnswer) → decodedPage s soft limit ≡ d → outcomeOf d .number ≡ 0 → symbols ≡ filled symbolBuffer old d → FourWords symbols × ((kept : List ℕ) → heldBytes symbols ≡ filled dataBuffer kept d)
+    unfolding outcomeOf filled
     filled-in (refused l) e z is = absurd (omega (arith, z))
     filled-in (answered ls n) e z is =
         let read = shortReader s limit in
@@ -81,9 +81,9 @@ module _ (s : Search) (soft : List ℕ) (limit : ℕ) where
       → (committed ≡ Done) × (written ≡ newData)
   committing-what-was-asked-writes-the-decoded-bytes oldSymbols oldData kept asked decoded committed newSymbols newData written full room has-room ask done decode commit =
       let D = decodedPage s soft limit in
-      let a = answered-call 252 symbolsAfter oldSymbols asked newSymbols ask done in
+      let a = answered-call symbolBuffer oldSymbols asked newSymbols ask done in
       let same = asking-gives-one-decodes-report oldSymbols oldData asked decoded newSymbols newData full room ask decode in
-      let b = answered-call 150 dataAfter oldData decoded newData decode (ap (λ (x : PageOutcome). x .number) (sym same) ∙ done) in
+      let b = answered-call dataBuffer oldData decoded newData decode (ap (λ (x : PageOutcome). x .number) (sym same) ∙ done) in
       let filled = filled-in oldSymbols newSymbols D refl (ap (λ (x : PageOutcome). x .number) (sym (a .0)) ∙ done) (a .1) in
       let taken = commit-accepts-exactly newSymbols kept committed written commit .1 (filled .0, has-room) in
       (taken, commit .bytes ∙ ap (λ (o : Outcome). after o (heldBytes newSymbols) kept) (sym (commit .answer) ∙ taken) ∙ filled .1 oldData ∙ sym (b .1))

@@ -9,8 +9,7 @@ use lib.Dec.{eqb, leb}
 use lib.ListN.{length}
 use Rattle.trellis.specs.Demand.{Search}
 use Rattle.concatenated.specs.SoftPage.{Soft}
-use Rattle.concatenated.specs.Decode.{PageAnswer}
-use Rattle.page.specs.Outcomes.{refusedPage, outcomeOf}
+use Rattle.page.specs.Outcomes.{refusedPage, outcomeOf, Buffer, filled}
 use Rattle.page.specs.declared.PageOutcome.{PageOutcome}
 use Rattle.questions.specs.Questions.{ask, firstAbove}
 use Rattle.questions.specs.declared.Outcome.{Outcome}
@@ -76,14 +75,14 @@ module _ (soft : List ℕ) (limit : ℕ) (room : Bool) where
       go true true true true true = refl
 
 -- so a call that gives the refusal and keeps the buffer, or what the page's answer gives, gives what is due
-module _ (places : ℕ) (made : List ℕ → PageAnswer → List ℕ) (s : Search) (soft : List ℕ) (limit : ℕ) (old : List ℕ) where
-  pub refused-as : (n p : ℕ) → Refused n p ≡ askPage soft limit (eqb (length old) places) Refused Done → (r : PageOutcome) → r ≡ refusedPage n p → PageFilled places made s soft limit old r old
+module _ (B : Buffer) (s : Search) (soft : List ℕ) (limit : ℕ) (old : List ℕ) where
+  pub refused-as : (n p : ℕ) → Refused n p ≡ askPage soft limit (eqb (length old) (B .places)) Refused Done → (r : PageOutcome) → r ≡ refusedPage n p → PageFilled B s soft limit old r old
   refused-as n p asked r e =
-      let room = eqb (length old) places in
+      let room = eqb (length old) (B .places) in
       record { answer = e ∙ sym (settled soft limit room refusedPage _ (Refused n p) asked); bytes = sym (settled soft limit room (λ n p. old) _ (Refused n p) asked) }
 
-  pub filled-as : Done ≡ askPage soft limit (eqb (length old) places) Refused Done → (r : PageOutcome) (new : List ℕ) → r ≡ outcomeOf (decodedPage s soft limit)
-      → new ≡ made old (decodedPage s soft limit) → PageFilled places made s soft limit old r new
+  pub filled-as : Done ≡ askPage soft limit (eqb (length old) (B .places)) Refused Done → (r : PageOutcome) (new : List ℕ) → r ≡ outcomeOf (decodedPage s soft limit)
+      → new ≡ filled B old (decodedPage s soft limit) → PageFilled B s soft limit old r new
   filled-as asked r new e b =
-      let room = eqb (length old) places in
+      let room = eqb (length old) (B .places) in
       record { answer = e ∙ sym (settled soft limit room refusedPage _ Done asked); bytes = b ∙ sym (settled soft limit room (λ n p. old) _ Done asked) }

@@ -15,7 +15,7 @@ use Rattle.concatenated.specs.Decode.{PageAnswer, answered, refused, pageLow}
 use Rattle.concatenated.specs.Readers.{Agree, NoneSpent, deadAhead, sumBelow, shortReader}
 use Rattle.concatenated.specs.OuterCode.{shortOuter}
 use Rattle.concatenated.specs.Marks.{changedMarks, erasedMarks}
-use Rattle.page.specs.Outcomes.{changedTotals, erasedTotals, refusedPage, outcomeOf, dataAfter, symbolsAfter}
+use Rattle.page.specs.Outcomes.{changedTotals, erasedTotals, refusedPage, outcomeOf, dataBuffer, filled, symbolBuffer, Buffer}
 use Rattle.page.specs.declared.PageOutcome.{PageOutcome}
 use Rattle.concatenated.proofs.Short.{decoders-agree}
 use Rattle.questions.specs.Questions.{ask, firstAbove}
@@ -39,19 +39,12 @@ outcomes-agree d (answered ls m) (refused k) e = absurd e
 outcomes-agree d (refused l) (answered ks n) e = absurd e
 outcomes-agree d (refused l) (refused k) e = record { number = refl; place = sym e; changed = refl; erased = refl; changed-marks = refl; erased-marks = refl; low = refl; steps = λ z. absurd (omega arith) }
 
-data-agree : (d : ℕ) (old : List ℕ) (w s : PageAnswer) → Agree d w s → dataAfter old s ≡ dataAfter old w
-unfolding dataAfter
-data-agree d old (answered ls m) (answered ks n) e = ap (λ l. dataAfter old (answered l n)) (sym (e .0))
-data-agree d old (answered ls m) (refused k) e = absurd e
-data-agree d old (refused l) (answered ks n) e = absurd e
-data-agree d old (refused l) (refused k) e = refl
-
-symbols-agree : (d : ℕ) (old : List ℕ) (w s : PageAnswer) → Agree d w s → symbolsAfter old s ≡ symbolsAfter old w
-unfolding symbolsAfter
-symbols-agree d old (answered ls m) (answered ks n) e = ap (λ l. symbolsAfter old (answered l n)) (sym (e .0))
-symbols-agree d old (answered ls m) (refused k) e = absurd e
-symbols-agree d old (refused l) (answered ks n) e = absurd e
-symbols-agree d old (refused l) (refused k) e = refl
+buffers-agree : (B : Buffer) (d : ℕ) (old : List ℕ) (w s : PageAnswer) → Agree d w s → filled B old s ≡ filled B old w
+unfolding filled
+buffers-agree B d old (answered ls m) (answered ks n) e = ap (λ l. filled B old (answered l n)) (sym (e .0))
+buffers-agree B d old (answered ls m) (refused k) e = absurd e
+buffers-agree B d old (refused l) (answered ks n) e = absurd e
+buffers-agree B d old (refused l) (refused k) e = refl
 
 refusals-agree : (d n p : ℕ) → (n ≡ 0 → ⊥) → SameButSteps d (refusedPage n p) (refusedPage n p)
 refusals-agree d n p some = record { number = refl; place = refl; changed = refl; erased = refl; changed-marks = refl; erased-marks = refl; low = refl; steps = λ z. absurd (some z) }
@@ -78,23 +71,23 @@ module _ (soft : List ℕ) (limit : ℕ) (none-spent : NoneSpent short shortOute
 
   -- Where no supercode search at levels 1..3 that the supercode decoder makes is spent, both calls give the same bytes, number, place, totals and marks of
   -- changed and erased columns and the same low point, and the step sums of an answered page differ by exactly the dead paths ahead.
-  both-calls : (places : ℕ) (made : List ℕ → PageAnswer → List ℕ) → ((d : ℕ) (old : List ℕ) (w s : PageAnswer) → Agree d w s → made old s ≡ made old w) → (old : List ℕ) (rs rw : PageOutcome) (ns nw : List ℕ)
-      → PageFilled places made supercode soft limit old rs ns → PageFilled places made whole soft limit old rw nw → SameButSteps deadPaths rs rw × (ns ≡ nw)
-  both-calls places made made-agree old rs rw ns nw s w =
+  both-calls : (B : Buffer) (old : List ℕ) (rs rw : PageOutcome) (ns nw : List ℕ)
+      → PageFilled B supercode soft limit old rs ns → PageFilled B whole soft limit old rw nw → SameButSteps deadPaths rs rw × (ns ≡ nw)
+  both-calls B old rs rw ns nw s w =
       let agree = decoders-agree shortOuter limit (softColumns shortPage soft) none-spent in
       let D = decodedPage whole soft limit in
       let E = decodedPage supercode soft limit in
-      let room = eqb (length old) places in (
+      let room = eqb (length old) (B .places) in (
         subst (λ (x : PageOutcome). SameButSteps deadPaths x rw) (sym (s .answer))
             (subst (λ (x : PageOutcome). SameButSteps deadPaths (askPage soft limit room refusedPage (outcomeOf E)) x) (sym (w .answer))
             (asked-alike deadPaths soft limit room (outcomeOf E) (outcomeOf D) (outcomes-agree deadPaths D E agree))),
-        s .bytes ∙ ap (askPage soft limit room (λ n p. old)) (made-agree deadPaths old D E agree) ∙ sym (w .bytes),
+        s .bytes ∙ ap (askPage soft limit room (λ n p. old)) (buffers-agree B deadPaths old D E agree) ∙ sym (w .bytes),
       )
 
   pub decode-page-and-decode-page-whole : (old : List ℕ) (rs rw : PageOutcome) (ns nw : List ℕ)
       → PageDecoded supercode soft limit old rs ns → PageDecoded whole soft limit old rw nw → SameButSteps deadPaths rs rw × (ns ≡ nw)
-  decode-page-and-decode-page-whole = both-calls 150 dataAfter data-agree
+  decode-page-and-decode-page-whole = both-calls dataBuffer
 
   pub ask-page-and-ask-page-whole : (old : List ℕ) (rs rw : PageOutcome) (ns nw : List ℕ)
       → PageAsked supercode soft limit old rs ns → PageAsked whole soft limit old rw nw → SameButSteps deadPaths rs rw × (ns ≡ nw)
-  ask-page-and-ask-page-whole = both-calls 252 symbolsAfter symbols-agree
+  ask-page-and-ask-page-whole = both-calls symbolBuffer

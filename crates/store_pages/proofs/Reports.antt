@@ -24,7 +24,7 @@ use Rattle.concatenated.proofs.Answers.{noLevel, LevelSets, answer-is-of-levels
 use Rattle.concatenated.proofs.OuterJoint.{outer-laws}
 use Rattle.concatenated.proofs.Lows.{short-levels-have-an-unerased-column, short-page-low-is-lowest, short-page-low-is-near}
 use Rattle.concatenated.proofs.SoftPages.{as-many-columns}
-use Rattle.page.specs.Outcomes.{reportOf, refusalReport, refusedPage, outcomeOf}
+use Rattle.page.specs.Outcomes.{reportOf, refusalReport, refusedPage, outcomeOf, Buffer}
 use Rattle.page.specs.declared.PageOutcome.{PageOutcome}
 use Rattle.store_pages.specs.Pages.{decodedPage, PageFilled}
 use Rattle.store_pages.specs.Reports.{bitAt, Marked, MarksOf, LowestColumn}
@@ -94,10 +94,10 @@ module _ (s : Search) (soft : List ℕ) (limit : ℕ) where
   answers-are-marked (answered ls n) e = answered-is-marked ls n e
 
   -- either decoder, and asking by either, every input
-  pub reports-are-marked : (places : ℕ) (made : List ℕ → PageAnswer → List ℕ) (old : List ℕ) (r : PageOutcome) (new : List ℕ) → PageFilled places made s soft limit old r new → Marked (r .report)
-  reports-are-marked places made old r new call =
+  pub reports-are-marked : (B : Buffer) (old : List ℕ) (r : PageOutcome) (new : List ℕ) → PageFilled B s soft limit old r new → Marked (r .report)
+  reports-are-marked B old r new call =
       subst⁻¹ (λ (o : PageOutcome). Marked (o .report)) (call .answer)
-      (every-way soft limit (eqb (length old) places) (λ (o : PageOutcome). Marked (o .report)) refusedPage (outcomeOf (decodedPage s soft limit)) (λ n p some few near. refusals-are-marked) (λ most. answers-are-marked (decodedPage s soft limit) refl))
+      (every-way soft limit (eqb (length old) (B .places)) (λ (o : PageOutcome). Marked (o .report)) refusedPage (outcomeOf (decodedPage s soft limit)) (λ n p some few near. refusals-are-marked) (λ most. answers-are-marked (decodedPage s soft limit) refl))
 
   answers-have-their-marks : (d : PageAnswer) → decodedPage s soft limit ≡ d → outcomeOf d .number ≡ 0 → MarksOf d (outcomeOf d .report)
   unfolding outcomeOf
@@ -105,10 +105,10 @@ module _ (s : Search) (soft : List ℕ) (limit : ℕ) where
   answers-have-their-marks (answered ls n) e z = record { levels = ls; is = refl; changed-bit = bit ls n e (λ l. l .changed); erased-bit = bit ls n e (λ l. l .erased) }
 
   -- each of them, where it answers: the bits of its marks are the columns of the levels' sets
-  pub bits-are-the-columns : (places : ℕ) (made : List ℕ → PageAnswer → List ℕ) (old : List ℕ) (r : PageOutcome) (new : List ℕ) → PageFilled places made s soft limit old r new → r .number ≡ 0 → MarksOf (decodedPage s soft limit) (r .report)
-  bits-are-the-columns places made old r new call =
+  pub bits-are-the-columns : (B : Buffer) (old : List ℕ) (r : PageOutcome) (new : List ℕ) → PageFilled B s soft limit old r new → r .number ≡ 0 → MarksOf (decodedPage s soft limit) (r .report)
+  bits-are-the-columns B old r new call =
       subst⁻¹ HasMarks (call .answer)
-      (every-way soft limit (eqb (length old) places) HasMarks refusedPage (outcomeOf D) (λ n p some few near z. absurd (omega (arith, some, z))) (λ most. answers-have-their-marks D refl))
+      (every-way soft limit (eqb (length old) (B .places)) HasMarks refusedPage (outcomeOf D) (λ n p some few near z. absurd (omega (arith, some, z))) (λ most. answers-have-their-marks D refl))
     where
       D : PageAnswer
       D = decodedPage s soft limit
@@ -134,11 +134,11 @@ module _ (s : Search) (soft : List ℕ) (limit : ℕ) where
       )
 
   -- each of them: where it answers, the low point is that of the lowest column; a refusal has 0
-  pub low-is-of-the-lowest-column : (places : ℕ) (made : List ℕ → PageAnswer → List ℕ) (old : List ℕ) (r : PageOutcome) (new : List ℕ) → PageFilled places made s soft limit old r new
+  pub low-is-of-the-lowest-column : (B : Buffer) (old : List ℕ) (r : PageOutcome) (new : List ℕ) → PageFilled B s soft limit old r new
       → (r .number ≡ 0 → LowestColumn (decodedPage s soft limit) (r .report)) × ((r .number ≡ 0 → ⊥) → r .report .low ≡ pos 0)
-  low-is-of-the-lowest-column places made old r new call =
+  low-is-of-the-lowest-column B old r new call =
       subst⁻¹ HasLow (call .answer)
-      (every-way soft limit (eqb (length old) places) HasLow refusedPage (outcomeOf D) (λ n p some few near. (λ z. absurd (omega (arith, some, z)), λ k. refl)) (λ most. answers-have-the-lowest D refl))
+      (every-way soft limit (eqb (length old) (B .places)) HasLow refusedPage (outcomeOf D) (λ n p some few near. (λ z. absurd (omega (arith, some, z)), λ k. refl)) (λ most. answers-have-the-lowest D refl))
     where
       D : PageAnswer
       D = decodedPage s soft limit

@@ -15,7 +15,7 @@ use Rattle.concatenated.specs.Misread.{WithinReach}
 use Rattle.concatenated.specs.Readers.{shortReader}
 use Rattle.concatenated.specs.OuterCode.{shortOuter, shortEncoder, ShortCodeword}
 use Rattle.questions.specs.Questions.{firstAbove}
-use Rattle.page.specs.Outcomes.{reportOf, refusedPage, outcomeOf, dataAfter}
+use Rattle.page.specs.Outcomes.{reportOf, refusedPage, outcomeOf, dataBuffer, filled}
 use Rattle.page.specs.declared.PageOutcome.{PageOutcome}
 use Rattle.concatenated.proofs.Digits.{Below}
 use Rattle.concatenated.proofs.OuterJoint.{outer-laws}
@@ -33,7 +33,7 @@ module _ (soft : List ℕ) (values-soft : Values 1890 7 soft) (limit : ℕ) (som
   pub written-page-comes-back-from-the-calls : (s : Search) (bytes : List ℕ) → length bytes ≡ 150 → Below 256 bytes
       → WithinReach shortPage shortOuter (shortReader s limit) (columnsOf 63 (writtenRows shortPage shortEncoder bytes)) (softColumns shortPage soft)
       → (r : PageOutcome) (new : List ℕ) → PageDecoded s soft limit old r new → CameBack (decodedPage s soft limit) bytes r new
-  unfolding outcomeOf dataAfter
+  unfolding outcomeOf filled
   written-page-comes-back-from-the-calls s bytes full are-bytes within r new call =
       let back = written-page-comes-back shortOuter shortEncoder ShortCodeword outer-laws s limit bytes full are-bytes soft within in
       let D = decodedPage s soft limit in
@@ -41,7 +41,7 @@ module _ (soft : List ℕ) (values-soft : Values 1890 7 soft) (limit : ℕ) (som
       record {
         number = ap (λ (x : PageOutcome). x .number) outcome;
         place = ap (λ (x : PageOutcome). x .place) outcome;
-        data-are = call .bytes ∙ sym (accepted (List ℕ) (λ n p. old) (dataAfter old D)) ∙ ap (dataAfter old) (back .2) ∙ back .4;
+        data-are = call .bytes ∙ sym (accepted (List ℕ) (λ n p. old) (filled dataBuffer old D)) ∙ ap (filled dataBuffer old) (back .2) ∙ back .4;
         levels = back .0;
         answered-so = back .2 ∙ ap (λ (x : PageOutcome). answered (back .0) (x .report .steps)) (sym outcome);
         rows-are-written = back .3;

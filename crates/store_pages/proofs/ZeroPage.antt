@@ -13,7 +13,7 @@ use Rattle.concatenated.specs.Decode.{allLows, pageLow}
 use Rattle.concatenated.specs.Marks.{markOf}
 use Rattle.concatenated.specs.Format.{shortPage}
 use Rattle.concatenated.specs.ZeroPage.{zeroPage}
-use Rattle.page.specs.Outcomes.{noColumns, refusedPage, outcomeOf, dataAfter}
+use Rattle.page.specs.Outcomes.{noColumns, refusedPage, outcomeOf, dataBuffer, filled}
 use Rattle.page.specs.declared.PageOutcome.{PageOutcome}
 use Rattle.concatenated.proofs.ZeroPage.{zero-page-comes-back, zero-levels-hold-zeros}
 use Rattle.store_pages.specs.Pages.{decodedPage, PageDecoded}
@@ -26,11 +26,11 @@ zeros-are-soft = record { size = refl; range = λ k h. let none : getD {A = ℕ}
 pub zero-page-comes-back-from-the-calls : (s : Search) (limit : ℕ) → 30 ≤ limit → limit ≤ 2000 → (old : List ℕ) → length old ≡ 150
     → (r : PageOutcome) (new : List ℕ) → PageDecoded s (zeroPage shortPage) limit old r new
     → (r ≡ record { number = 0; place = 0; report = noColumns 7560 (pos 2) }) × (new ≡ replicate 150 0)
-unfolding outcomeOf dataAfter total markOf listed pageLow allLows flatMap lowest lowest-from lower
+unfolding outcomeOf filled total markOf listed pageLow allLows flatMap lowest lowest-from lower
 zero-page-comes-back-from-the-calls s limit enough most old room r new call =
     let asked = accepted (zeroPage shortPage) zeros-are-soft limit (omega arith) most old room in
     let D = decodedPage s (zeroPage shortPage) limit in
     let back = zero-page-comes-back s limit enough in (
       call .answer ∙ sym (asked PageOutcome refusedPage (outcomeOf D)) ∙ ap outcomeOf back,
-      call .bytes ∙ sym (asked (List ℕ) (λ n p. old) (dataAfter old D)) ∙ ap (dataAfter old) back ∙ zero-levels-hold-zeros,
+      call .bytes ∙ sym (asked (List ℕ) (λ n p. old) (filled dataBuffer old D)) ∙ ap (filled dataBuffer old) back ∙ zero-levels-hold-zeros,
     )

@@ -12,7 +12,7 @@ use Rattle.concatenated.specs.SoftPage.{softColumns}
 use Rattle.concatenated.specs.Decode.{PageAnswer, decoded}
 use Rattle.concatenated.specs.Readers.{shortReader}
 use Rattle.concatenated.specs.OuterCode.{shortOuter}
-use Rattle.page.specs.Outcomes.{refusedPage, outcomeOf, dataAfter, symbolsAfter}
+use Rattle.page.specs.Outcomes.{refusedPage, outcomeOf, dataBuffer, filled, symbolBuffer, Buffer}
 use Rattle.page.specs.declared.PageOutcome.{PageOutcome}
 use Rattle.questions.specs.Questions.{ask, firstAbove}
 use Rattle.questions.specs.declared.Outcome.{Outcome}
@@ -43,15 +43,15 @@ askPage soft limit room refusal next =
     (ask (leb 1890 (firstAbove soft 7)) (refusal 5 (firstAbove soft 7))
     next))))
 
--- the answer, 10 with its level included, and the buffer of so many places after it: what `made` leaves in it, or the old bytes
-pub record PageFilled (places : ℕ) (made : List ℕ → PageAnswer → List ℕ) (s : Search) (soft : List ℕ) (limit : ℕ) (old : List ℕ) (r : PageOutcome) (new : List ℕ) : Type 0 where
-  pub answer : r ≡ askPage soft limit (eqb (length old) places) refusedPage (outcomeOf (decodedPage s soft limit))
-  pub bytes : new ≡ askPage soft limit (eqb (length old) places) (λ n p. old) (made old (decodedPage s soft limit))
+-- the answer, 10 with its level included, and the bytes after it: what the answer fills the buffer with, or the old ones
+pub record PageFilled (B : Buffer) (s : Search) (soft : List ℕ) (limit : ℕ) (old : List ℕ) (r : PageOutcome) (new : List ℕ) : Type 0 where
+  pub answer : r ≡ askPage soft limit (eqb (length old) (B .places)) refusedPage (outcomeOf (decodedPage s soft limit))
+  pub bytes : new ≡ askPage soft limit (eqb (length old) (B .places)) (λ n p. old) (filled B old (decodedPage s soft limit))
 
 -- page decoding: 150 bytes
 abbrev pub PageDecoded : Search → List ℕ → ℕ → List ℕ → PageOutcome → List ℕ → Type 0
-PageDecoded = PageFilled 150 dataAfter
+PageDecoded = PageFilled dataBuffer
 
 -- 02, point 7: "Asking fills a lent buffer of 252 corrected symbols, row after row, and gives the report"
 abbrev pub PageAsked : Search → List ℕ → ℕ → List ℕ → PageOutcome → List ℕ → Type 0
-PageAsked = PageFilled 252 symbolsAfter
+PageAsked = PageFilled symbolBuffer

@@ -8,7 +8,7 @@ use Rattle.concatenated.specs.Decode.{decoded}
 use Rattle.concatenated.specs.Readers.{shortReader}
 use Rattle.search.specs.Outcomes.{searchOf}
 use Rattle.concatenated.specs.OuterCode.{shortOuter}
-use Rattle.page.specs.Outcomes.{outcomeOf, symbolsAfter}
+use Rattle.page.specs.Outcomes.{outcomeOf, symbolBuffer, filled}
 use Rattle.page.proofs.PageOutcomes.{soft-columns, is-answered, is-refused, refusal-is-10, refusal-keeps-the-symbols, answered-outcome, answered-symbols}
 use borrow.Author.Needs.{needs}
 use Rattle.page.proofs.ask_page.Statement.{statement}
@@ -71,7 +71,7 @@ returns c =
     let loaded = left .before .before .before .before .before .before .before .before .load .ensures in
     let old = start .args .symbols .now in (
       answered-outcome _ _ _ _ _ _ answer _ _ _ (c .before .before .totals .ensures) (c .totals2 .ensures) (toZ-ofZ (record { sfits = c .before .before .before .before .before .before .before .before .before .known-told .given .1 .0 .1 })) ∙ ap (λ (p : List (List ℕ)). outcomeOf (decoded short shortOuter read p)) loaded,
-      answered-symbols _ _ _ _ _ _ answer old _ (c .before .before .before .before .before .before .row-after-row .ensures) ∙ ap (λ (p : List (List ℕ)). symbolsAfter old (decoded short shortOuter read p)) loaded,
+      answered-symbols _ _ _ _ _ _ answer old _ (c .before .before .before .before .before .before .row-after-row .ensures) ∙ ap (λ (p : List (List ℕ)). filled symbolBuffer old (decoded short shortOuter read p)) loaded,
     )
 
 returns-2 : tie.Need-returns-2
@@ -84,7 +84,7 @@ returns-2 c =
     let old = start .args .symbols .now in
     let refusal = sym (is-refused read _ _ _ _ _ (left .decode-columns .ensures) (told .0 .0) (told .1)) in (
       c .refused .ensures ∙ refusal-is-10 (told .0 .0) ∙ ap outcomeOf refusal ∙ ap (λ (p : List (List ℕ)). outcomeOf (decoded short shortOuter read p)) loaded,
-      refusal-keeps-the-symbols old (told .0 .0) ∙ ap (symbolsAfter old) refusal ∙ ap (λ (p : List (List ℕ)). symbolsAfter old (decoded short shortOuter read p)) loaded,
+      refusal-keeps-the-symbols old (told .0 .0) ∙ ap (filled symbolBuffer old) refusal ∙ ap (λ (p : List (List ℕ)). filled symbolBuffer old (decoded short shortOuter read p)) loaded,
     )
 
 pub ask-page-spec : {M : Type 1} → statement M

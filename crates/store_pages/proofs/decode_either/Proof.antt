@@ -4,7 +4,7 @@ use lib.Dec.{eqb}
 use lib.ListN.{length}
 use borrow.Author.Tests.{eqb-true}
 use Rattle.search.specs.Outcomes.{searchOf}
-use Rattle.page.specs.Outcomes.{dataAfter}
+use Rattle.page.specs.Outcomes.{dataBuffer}
 use Rattle.store_pages.proofs.Asked.{ready, refused-as, filled-as}
 use borrow.Author.Needs.{needs}
 use Rattle.store_pages.proofs.decode_either.Statement.{statement}
@@ -35,13 +35,13 @@ returns : tie.Need-returns
 returns c =
     let args = c .before .before .before .before .before .before .before .before .before .args in
     let page = c .before .before .decode-page .ensures in
-    filled-as 150 dataAfter (searchOf (args .in-supercodes)) (args .soft .now) (args .limit) (args .«data» .now) (sym (c .before .before .before .before .enum-told .given .1) ∙ c .before .before .before .before .before .before .page-questions .ensures) _ _ (page .0) (page .1)
+    filled-as dataBuffer (searchOf (args .in-supercodes)) (args .soft .now) (args .limit) (args .«data» .now) (sym (c .before .before .before .before .enum-told .given .1) ∙ c .before .before .before .before .before .before .page-questions .ensures) _ _ (page .0) (page .1)
 
 returns-2 : tie.Need-returns-2
 returns-2 c =
     let args = c .before .before .before .before .before .before .before .args in
     let told = c .before .before .n .given in
-    refused-as 150 dataAfter (searchOf (args .in-supercodes)) (args .soft .now) (args .limit) (args .«data» .now) (told .0 .0) (told .0 .1 .0) (sym (told .1) ∙ c .before .before .before .before .page-questions .ensures) _ (c .refused .ensures)
+    refused-as dataBuffer (searchOf (args .in-supercodes)) (args .soft .now) (args .limit) (args .«data» .now) (told .0 .0) (told .0 .1 .0) (sym (told .1) ∙ c .before .before .before .before .page-questions .ensures) _ (c .refused .ensures)
 
 pub decode-either-spec : {M : Type 1} → statement M
 decode-either-spec =
