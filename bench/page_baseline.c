@@ -126,6 +126,29 @@ static inline uint8_t ones(uint64_t m) {
     return (uint8_t)(((m + (m >> 4)) & 0x0f0f0f0f0f0f0f0fu) * 0x0101010101010101u >> 56);
 }
 
+static void pack(const uint8_t symbols[200], uint8_t *data) {
+    for (int n = 0; n < 50; n++) {
+        uint32_t b = (uint32_t)(symbols[4 * n] << 18 | symbols[4 * n + 1] << 12 | symbols[4 * n + 2] << 6 | symbols[4 * n + 3]);
+        for (int k = 0; k < 3; k++) data[3 * n + k] = (uint8_t)(b >> (16 - 8 * k));
+    }
+}
+
+/* A row is a word if it is its data coded again: quicker than its values at the roots. */
+page_outcome page_baseline_commit(const uint8_t *symbols, uint8_t *data) {
+    uint8_t fronts[200], *front = fronts;
+    for (int k = 0; k < LEVELS * COLUMNS; k++) if (symbols[k] > 63) return (page_outcome){.number = 5, .place = (uint64_t)k};
+    for (int i = 0; i < LEVELS; i++, symbols += COLUMNS) {
+        uint8_t row[COLUMNS];
+        memcpy(row, symbols, sizeof row);
+        encode_row(i, row);
+        if (memcmp(row, symbols, sizeof row)) return (page_outcome){.number = 14, .place = (uint64_t)i};
+        memcpy(front, row, (size_t)(COLUMNS - roots[i]));
+        front += COLUMNS - roots[i];
+    }
+    pack(fronts, data);
+    return (page_outcome){.number = 0};
+}
+
 page_outcome page_baseline_decode(baseline_search *search, const uint8_t *soft, int limit, uint8_t *data) {
     page_outcome o = {.low = INT_MAX};
     uint8_t page[COLUMNS][BITS], symbols[200], *symbol = symbols;
@@ -157,9 +180,6 @@ page_outcome page_baseline_decode(baseline_search *search, const uint8_t *soft, 
         memcpy(symbol, row, (size_t)(COLUMNS - roots[i]));
         symbol += COLUMNS - roots[i];
     }
-    for (int n = 0; n < 50; n++) {
-        uint32_t b = (uint32_t)(symbols[4 * n] << 18 | symbols[4 * n + 1] << 12 | symbols[4 * n + 2] << 6 | symbols[4 * n + 3]);
-        for (int k = 0; k < 3; k++) data[3 * n + k] = (uint8_t)(b >> (16 - 8 * k));
-    }
+    pack(symbols, data);
     return o;
 }

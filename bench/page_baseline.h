@@ -11,6 +11,8 @@ typedef struct { uint64_t number, place, steps; uint8_t changed[4], erased[4]; u
 /* makes the tables; call it first */
 void page_baseline_start(void);
 void page_baseline_encode(const uint8_t *data, uint8_t *page);
+/* the data that four rows of symbols hold; number 0, 5 or 14 with its place */
+page_outcome page_baseline_commit(const uint8_t *symbols, uint8_t *data);
 page_outcome page_baseline_decode(baseline_search *search, const uint8_t *soft, int limit, uint8_t *data);
 
 #endif

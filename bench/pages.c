@@ -1,4 +1,4 @@
-/* Pages: the store's coding and decoding (supercode search), questions included, and the C baseline's on the same pages, in one process, in turns; the least
+/* Pages: the store's coding, decoding (supercode search) and committing, questions included, and the C baseline's on the same pages, in one process, in turns; the least
    of the rounds counts. Every page's bytes, steps, changed and erased columns with their marks, low points and refusals are compared. */
 #include "../tests/entries.h"
 #include "inputs.h"
@@ -6,7 +6,7 @@
 #include <stdio.h>
 #include <string.h>
 
-enum { DATA = 150, WRITTEN = 252, SOFT = 1890, PAGES = 100, ROUNDS = 20, WAYS = 3, NO_WORD = 10 };
+enum { DATA = 150, WRITTEN = 252, SYMBOLS = 252, SOFT = 1890, PAGES = 100, ROUNDS = 20, WAYS = 3, NO_WORD = 10 };
 
 /* Limits: the first decode's and that of a second one if the first is refused by 10; 0: no second decode. The default, the default before document 02's
    point 9, and the way that c/station.h advises. */
@@ -78,6 +78,28 @@ static int decoding(const limits *use) {
     return differ;
 }
 
+/* Committing: the symbols of the written pages, read surely; whether the data differ. */
+static int committing(void) {
+    static uint8_t symbols[PAGES][SYMBOLS];
+    double best[2] = {1e9, 1e9};
+    for (int p = 0; p < PAGES; p++) {
+        for (int n = 0; n < SOFT; n++) soft[p][n] = written[1][p][n / BITS * 4 + n % BITS / 8] >> (7 - n % BITS % 8) & 1 ? 7 : 0;
+        entry_ask_page(soft[p], SOFT, 200, symbols[p], SYMBOLS);
+    }
+    for (int round = 0; round < 5 * ROUNDS; round++) {
+        double t = seconds();
+        for (int p = 0; p < PAGES; p++) entry_commit_page(symbols[p], SYMBOLS, back[0][p], DATA);
+        least(&best[0], t);
+        t = seconds();
+        for (int p = 0; p < PAGES; p++) page_baseline_commit(symbols[p], back[1][p]);
+        least(&best[1], t);
+    }
+    int wrong = memcmp(back[0], data, sizeof data) || memcmp(back[1], data, sizeof data);
+    printf("committing, microseconds a page: store | C, ratio\n");
+    printf("%-14s %9.3f | %9.3f %.2f%s\n", "committing", best[0] / PAGES * 1e6, best[1] / PAGES * 1e6, best[0] / best[1], wrong ? "  DATA DIFFER" : "");
+    return wrong;
+}
+
 int main(void) {
     int differ = 0;
     page_baseline_start();
@@ -95,6 +117,7 @@ int main(void) {
     differ |= wrong;
     printf("page coding, microseconds a page: store | C, ratio\n");
     printf("%-14s %9.3f | %9.3f %.2f%s\n", "coding", code[0] / PAGES * 1e6, code[1] / PAGES * 1e6, code[0] / code[1], wrong ? "  PAGES DIFFER" : "");
+    differ |= committing();
     const uint64_t drawn = state;
     for (int u = 0; u < USES; u++) {
         state = drawn; /* the same pages for every use */

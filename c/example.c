@@ -1,10 +1,10 @@
 /* One page of a station: weights are written, the page wears, and its bits are read as eight levels. The station asks what decoding would give, when the page is worn
-   more a second time with a larger limit; it looks at the damage, and commits the weights in the place of its old record. Compiles as C and as C++. */
+   more a second time with a larger limit; it looks at the damage, and only then commits the weights in the place of its old record. Compiles as C and as C++. */
 #include "station.h"
 #include <stdio.h>
 #include <string.h>
 
-enum { COLUMN_BITS = 30, COLUMN_BYTES = 4, RECORD = 25, RECORDS = STATION_DATA_LEN / RECORD };
+enum { COLUMN_BITS = 30, COLUMN_BYTES = 4, RECORD = 25, RECORDS = STATION_DATA_LEN / RECORD, ENOUGH = 1 };
 
 /* A fixed sequence of numbers that look random. */
 static uint32_t next(uint32_t *state) {
@@ -12,9 +12,9 @@ static uint32_t next(uint32_t *state) {
     return *state >> 8;
 }
 
-/* Six records of 25 bytes: a pen, the weight stocked and the weight gained. */
-static void weigh(uint8_t data[STATION_DATA_LEN]) {
-    uint32_t state = 7;
+/* Six records of 25 bytes: a pen, the weight stocked and the weight gained, on a day. */
+static void weigh(uint32_t day, uint8_t data[STATION_DATA_LEN]) {
+    uint32_t state = day;
     for (unsigned pen = 0; pen < RECORDS; pen++) {
         unsigned stock = next(&state) % 100000, gain = next(&state) % 100;
         char line[RECORD + 1];
@@ -90,13 +90,20 @@ static unsigned reserve(const uint8_t report[STATION_REPORT_LEN]) {
 
 int main(void) {
     uint8_t data[STATION_DATA_LEN], page[STATION_PAGE_LEN], soft[STATION_SOFT_LEN], symbols[STATION_SYMBOLS_LEN], record[STATION_DATA_LEN], report[STATION_REPORT_LEN];
-    weigh(data);
+    weigh(7, data);
     if (refused("encode", station_encode_page(data, sizeof data, page, sizeof page))) return 1;
     for (unsigned wear = 1; wear <= 2; wear++) {
+        uint8_t older[STATION_DATA_LEN];
+        weigh(6, older);
+        memcpy(record, older, sizeof record);
         printf("%d of %d bits read wrongly\n", read_worn(page, wear, soft), STATION_SOFT_LEN);
         if (refused("ask", ask(soft, symbols, report))) return 1;
         print_report(report);
-        printf("reserve %u, and the old record is still there: commit\n", reserve(report));
+        printf("reserve %u, and the old record is %s\n", reserve(report), memcmp(record, older, sizeof record) ? "gone" : "still there");
+        if (reserve(report) < ENOUGH) {
+            puts("too little reserve: the old record stays");
+            continue;
+        }
         if (refused("commit", station_commit_page(symbols, sizeof symbols, record, sizeof record))) return 1;
         int same = !memcmp(data, record, sizeof data);
         puts(same ? "the data are as written" : "the data differ");

@@ -23,13 +23,13 @@
        STATION_CHECK           8   is its check right? (7 and 8 go block by block)   place: the block, 0..3
        STATION_VALUE           5   is each soft value 0..7?                          place: the first bad one in the soft page, 0..1889
                                    is each symbol 0..63?                             place: the first bad one of the symbols, 0..251
-       STATION_NO_WORD        10   is there an outer word in reach?                  place: the level, 0..3
        STATION_ROW            14   is each row of symbols a word of its outer code?  place: the lowest level whose row is none, 0..3
+       STATION_NO_WORD        10   is there an outer word in reach?                  place: the level, 0..3
 
    The place is 0 where none is named.
 
-   LIMIT. The most steps that the search of a column takes at a level; a column that has no word by then counts as erased. The call that names
-   no limit takes STATION_DEFAULT_LIMIT, which was 500 and is 200 now: worn pages take less time, and more of them are refused by 10.
+   LIMIT. The most steps that the search of a column takes at a level; a column that has no word by then counts as erased. The calls that name
+   no limit take STATION_DEFAULT_LIMIT, which was 500 and is 200 now: worn pages take less time, and more of them are refused by 10.
    Whoever counted on 500, as the dump service did, must name it: station_decode_page_limit(soft, soft_len, 500, ...).
 
    ASK, THEN COMMIT. Decoding writes over its data buffer as soon as there is an answer. A station that has to know the damage before the old record
@@ -38,9 +38,12 @@
    that the rows hold, and for symbols that are as asking left them these are exactly the bytes that station_decode_page would have written.
    The buffer of symbols is not a written page, though both have 252 bytes: a written page stands column after column and goes to the flash, the
    symbols stay in the station's memory.
-   Committing judges each row again, since the buffer may have been altered between, and takes whatever four words it is given, whoever filled them:
-   it does not know which page was asked about. A row with 1 to 30, 12, 6 or 4 altered symbols (level 0 to 3) is always refused by 14; a row written
-   over at random is taken once in 2^180, 2^72, 2^36 or 2^24. So keep the buffer as safe as the data.
+   Commit only symbols whose asking returned 0: after a refusal the buffer still holds what it held. Committing judges each row again, since the
+   buffer may have been altered between, but it takes any four words, whoever filled them, and does not know which page was asked about: the symbols
+   of another page are taken, and so is a cleared buffer, or any buffer of one repeated byte 0..63; zeros write 150 bytes of zero over the record. Of
+   the symbols as asking left them, a row with 1 to 30, 12, 6 or 4 altered bytes (level 0 to 3) is always refused, by 5 where a byte is above 63 and
+   else by 14; a row of random symbols 0..63 is taken once in 2^180, 2^72, 2^36 or 2^24. So keep the buffer as safe as the data, or decode into a
+   second buffer of STATION_DATA_LEN bytes, read the report, and copy.
 
    THREADS. The calls have no state and allocate nothing; they may run at the same time on different buffers.
 
@@ -104,7 +107,8 @@ uint64_t station_decode_page(const uint8_t *soft, size_t soft_len, uint8_t *data
    data gives STATION_SYMBOLS_LEN corrected symbols for station_commit_page. Refused by 1, 2, 4, 5 and 10. */
 uint64_t station_ask_page_limit(const uint8_t *soft, size_t soft_len, uint64_t limit, uint8_t *symbols, size_t symbols_len, uint8_t *report, size_t report_len);
 
-/* The same with STATION_DEFAULT_LIMIT. Refused by 1, 2, 5 and 10. */
+/* The same with STATION_DEFAULT_LIMIT. Refused by 1, 2, 5 and 10. A page that it refuses by 10 is to be asked about once more, with
+   station_ask_page_limit and STATION_LARGEST_LIMIT: what is said at station_decode_page holds here too. */
 uint64_t station_ask_page(const uint8_t *soft, size_t soft_len, uint8_t *symbols, size_t symbols_len, uint8_t *report, size_t report_len);
 
 /* Writes the STATION_DATA_LEN bytes of data that the four rows of STATION_SYMBOLS_LEN symbols hold. Refused by 1, 2, 5 and 14. */

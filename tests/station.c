@@ -160,15 +160,17 @@ static void soft_values(void) {
     }
 }
 
-/* Symbols of the all-zero page, altered: the first that is above 63 is the place of 5, whatever the rows are; then the lowest row that is no word is that of 14. The word
-   of ones at every place of a row is a word of every level, and its data come out. */
+/* Symbols of the all-zero page, altered: the first that is above 63 is the place of 5, whatever the rows are; then the lowest row that is no word is that of 14. A row
+   of equal symbols is a word at every level, and its data come out; a cleared buffer gives zeros. */
 static void rows(void) {
     static const int at[STATION_LEVELS] = {0, 33, 62, 7}, ends[STATION_LEVELS + 1] = {0, 33, 84, 141, 200};
-    uint8_t page[STATION_SYMBOLS_LEN] = {0};
+    uint8_t page[STATION_SYMBOLS_LEN] = {0}, zeros[STATION_DATA_LEN] = {0};
+    commit("commit, a cleared buffer", page, sizeof page, STATION_DATA_LEN, STATION_OK, 0, zeros);
     for (int i = STATION_LEVELS; i-- > 0;) {
         uint8_t data[STATION_DATA_LEN] = {0}, word[STATION_SYMBOLS_LEN] = {0};
-        page[STATION_COLUMNS * i + at[i]] = (uint8_t)(1 + i);
-        commit("commit, an altered symbol", page, sizeof page, STATION_DATA_LEN, STATION_ROW, (uint64_t)i, NULL);
+        word[STATION_COLUMNS * i + at[i]] = page[STATION_COLUMNS * i + at[i]] = (uint8_t)(1 + i);
+        commit("commit, an altered symbol", word, sizeof word, STATION_DATA_LEN, STATION_ROW, (uint64_t)i, NULL);
+        commit("commit, an altered symbol in each row from this on", page, sizeof page, STATION_DATA_LEN, STATION_ROW, (uint64_t)i, NULL);
         page[STATION_SYMBOLS_LEN - 1] = 64;
         commit("commit, a symbol above 63 in row 3", page, sizeof page, STATION_DATA_LEN, STATION_VALUE, STATION_SYMBOLS_LEN - 1, NULL);
         page[STATION_SYMBOLS_LEN - 1] = 0;

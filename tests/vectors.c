@@ -203,8 +203,8 @@ static int commit_refuses(const uint8_t *symbols, size_t n, size_t room, uint64_
     return f.number == number && f.place == place && untouched(out, sizeof out);
 }
 
-/* Asking tells what decoding told, p with the data. An answer's symbols are four words, and committing them writes these data; with a symbol altered in one or more
-   rows the lowest of them is refused. A refusal changes no symbol. */
+/* Asking tells what decoding told, p with the data. An answer's symbols are four words, and committing them writes these data; with a symbol altered in a row
+   alone, or in this and all higher rows, that row is refused. A refusal changes no symbol. */
 static int asks_alike(const char *mode, uint64_t limit, const paged *p, const uint8_t *data) {
     uint8_t symbols[SYMBOLS + 1], out[DATA];
     memset(symbols, UNTOUCHED, sizeof symbols);
@@ -213,10 +213,16 @@ static int asks_alike(const char *mode, uint64_t limit, const paged *p, const ui
     if (a.number) return untouched(symbols, sizeof symbols);
     filled f = entry_commit_page(symbols, SYMBOLS, out, DATA);
     if (f.number || f.place || memcmp(out, data, DATA)) return 0;
+    uint8_t altered[SYMBOLS];
+    memcpy(altered, symbols, SYMBOLS);
     for (uint64_t i = 4; i-- > 0;) {
+        uint64_t at = ROW * i + (limit + 17 * i) % ROW;
         if (!row_is_word(symbols, i)) return 0;
-        symbols[ROW * i + (limit + 17 * i) % ROW] ^= (uint8_t)(1 + limit % 63);
+        symbols[at] ^= (uint8_t)(1 + limit % 63);
         if (!commit_refuses(symbols, SYMBOLS, DATA, 14, i)) return 0;
+        altered[at] = symbols[at];
+        symbols[at] ^= (uint8_t)(1 + limit % 63);
+        if (!commit_refuses(altered, SYMBOLS, DATA, 14, i)) return 0;
     }
     return 1;
 }

@@ -1,3 +1,3 @@
-// Page coding: the data's symbols in rows (`data`), and the columns of the rows (`writing`).
+// Page coding: the data's symbols in rows, and rows in a buffer (`data`); the columns of the rows (`writing`).
 pub mod data;
 pub mod writing;

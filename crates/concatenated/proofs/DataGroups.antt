@@ -1,4 +1,4 @@
--- The short page's data, group by group and row by row. Assumes nothing.
+-- The short page's data, group by group and row by row, and its rows in a buffer. Assumes nothing.
 use mathlib.Core.List.{List, [], _∷_, _++_, flatMap}
 use mathlib.Core.Path.{_≡_, refl, sym, ap, ap₂, _∙_, subst⁻¹}
 use Prim.Native.Nat.{ℕ, _+_, _-_, _*_, _≤_, _<_}

@@ -1,4 +1,4 @@
--- The outer code meets what a page asks of it: the answer is the codeword in reach. Assumes nothing.
+-- The outer code meets what a page asks of it: the answer is the codeword in reach, and the test of a row tells whether it is a codeword. Assumes nothing.
 use mathlib.Core.Bool.{Bool, true, false}
 use mathlib.Core.List.{List, [], _∷_, map}
 use mathlib.Core.Path.{_≡_, refl, sym, ap, ap₂, _∙_, subst, subst⁻¹, fun-ext}

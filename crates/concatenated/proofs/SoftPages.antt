@@ -1,7 +1,7 @@
 -- The look-up of a column, and the columns of a soft page. Assumes nothing.
-use mathlib.Core.Bool.{Bool, true, false, cond, _&&_}
+use mathlib.Core.Bool.{Bool, cond, _&&_, and-false}
 use mathlib.Core.List.{List, []}
-use mathlib.Core.Path.{_≡_, refl, ap, ap₂, _∙_, subst⁻¹}
+use mathlib.Core.Path.{_≡_, ap, ap₂, _∙_, subst⁻¹}
 use Prim.Native.Nat.{ℕ, suc, _*_, _≤_, _<_}
 use native.Mathlib.Nat.{mul-le-mul-right, suc-mul}
 use native.Mathlib.Omega.{arith}
@@ -18,11 +18,7 @@ module _ (P : Format) (page : List ℕ) where
   -- 01: "For a column above 62 or a page of another length the part is empty"
   pub no-part-above-the-last-column : (j : ℕ) → P .columns ≤ j → columnPart P page j ≡ []
   unfolding columnPart
-  no-part-above-the-last-column j h = ap (λ (t : Bool). cond t (take (P .shape .bits) (drop (j * P .shape .bits) page)) []) (ap (λ (t : Bool). eqb (length page) (P .columns * P .shape .bits) && t) (le-ltb j (P .columns) h) ∙ never (eqb (length page) (P .columns * P .shape .bits)))
-    where
-      never : (b : Bool) → (b && false) ≡ false
-      never true = refl
-      never false = refl
+  no-part-above-the-last-column j h = ap (λ (t : Bool). cond t (take (P .shape .bits) (drop (j * P .shape .bits) page)) []) (ap (λ (t : Bool). eqb (length page) (P .columns * P .shape .bits) && t) (le-ltb j (P .columns) h) ∙ and-false (eqb (length page) (P .columns * P .shape .bits)))
 
   pub no-part-of-another-length : (j : ℕ) → (length page ≡ P .columns * P .shape .bits → ⊥) → columnPart P page j ≡ []
   unfolding columnPart

@@ -75,9 +75,9 @@ module _ (P : Format) where
   unfolding rowsIn
   buffer-is-its-rows symbols long = first-rows symbols (levels (P .shape)) ∙ take-all (levels (P .shape) * P .columns) symbols (omega (arith, long))
 
-  pub as-many-rows : (symbols : List ℕ) → length (rowsIn P symbols) ≡ levels (P .shape)
+  pub as-many-rows-in : (symbols : List ℕ) → length (rowsIn P symbols) ≡ levels (P .shape)
   unfolding rowsIn
-  as-many-rows symbols = listed-length (rowIn P symbols) (levels (P .shape))
+  as-many-rows-in symbols = listed-length (rowIn P symbols) (levels (P .shape))
 
   pub row-in-at : (symbols : List ℕ) (i : ℕ) → i < levels (P .shape) → getD (rowsIn P symbols) i [] ≡ rowIn P symbols i
   unfolding rowsIn

@@ -116,12 +116,12 @@ fronts-are-a-word symbols fronts word e =
     (subst (λ (n : ℕ). WordOf 64 n (rowsData shortPage rs 4)) (rows-data-length shortPage rs words 4 (omega arith) ∙ short-page-numbers .5) (below-is-word 64 (rowsData shortPage rs 4) (rows-data-in-range shortPage rs words 4 (omega arith))))
 
 -- decoding is asking and packing: what was asked for is an outcome and symbols
-module _ (read : Reader) (page : List (List ℕ)) (wide : length page ≡ 63) (o : PageOutcome) (is : o ≡ outcomeOf (decoded short shortOuter read page)) where
+module _ (read : Reader) (page : List (List ℕ)) (o : PageOutcome) (is : o ≡ outcomeOf (decoded short shortOuter read page)) where
   -- an answer's symbols are in range, and the bytes of their rows are its data
-  pub answer-is-packed : o .number ≡ 0 → (old symbols : List ℕ) → symbols ≡ filled symbolBuffer old (decoded short shortOuter read page)
+  pub answer-is-packed : length page ≡ 63 → o .number ≡ 0 → (old symbols : List ℕ) → symbols ≡ filled symbolBuffer old (decoded short shortOuter read page)
       → WordOf 64 252 symbols × ((kept new : List ℕ) → new ≡ bytesOfRows shortPage (rowsIn shortPage symbols) → new ≡ filled dataBuffer kept (decoded short shortOuter read page))
   unfolding outcomeOf filled
-  answer-is-packed done old symbols = go (decoded short shortOuter read page) refl (sym (ap (λ (x : PageOutcome). x .number) is) ∙ done)
+  answer-is-packed wide done old symbols = go (decoded short shortOuter read page) refl (sym (ap (λ (x : PageOutcome). x .number) is) ∙ done)
     where
       go : (d : PageAnswer) → decoded short shortOuter read page ≡ d → outcomeOf d .number ≡ 0 → symbols ≡ filled symbolBuffer old d
           → WordOf 64 252 symbols × ((kept new : List ℕ) → new ≡ bytesOfRows shortPage (rowsIn shortPage symbols) → new ≡ filled dataBuffer kept d)

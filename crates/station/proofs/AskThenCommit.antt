@@ -24,7 +24,7 @@ as-the-call : (B : Buffer) (soft : List ℕ) (limit : ℕ) (buffer report : List
     → PageReturned B soft limit buffer report r newBuffer newReport → PageFilled B supercode soft limit buffer (pageAnswer B soft limit buffer report) newBuffer
 as-the-call B soft limit buffer report r newBuffer newReport room entry =
     let D = decodedPage supercode soft limit in
-    let same-room = report-has-room B soft limit buffer report room in
+    let same-room = report-has-room B buffer report room in
     record {
       answer = ap (λ (b : Bool). askPage soft limit b refusedPage (outcomeOf D)) same-room;
       bytes = entry .buffer-is ∙ ap (λ (b : Bool). askPage soft limit b (λ n p. buffer) (filled B buffer D)) same-room;

@@ -9,10 +9,9 @@ use lib.ListN.{length}
 use Rattle.trellis.specs.Demand.{Search, supercode}
 use Rattle.page.specs.Outcomes.{refusedPage, outcomeOf, Buffer, filled}
 use Rattle.page.specs.declared.PageOutcome.{PageOutcome}
-use Rattle.questions.specs.Questions.{ask}
 use Rattle.store_pages.specs.Pages.{askPage, decodedPage, PageFilled}
 use Rattle.station.specs.Returned.{returned}
-use Rattle.station.specs.PageReturned.{PageReturned, pageAnswer, reportAfter}
+use Rattle.station.specs.PageReturned.{PageReturned, ownLengths, pageAnswer, reportAfter}
 use Rattle.station.proofs.Asked.{first-no, report-has-room}
 use Rattle.station.proofs.Places.{SmallPage, page-small}
 
@@ -22,10 +21,10 @@ small {B} {s = s} {soft} {old} {most = most} page = subst⁻¹ SmallPage (page .
 
 module _ (B : Buffer) (soft : List ℕ) (limit : ℕ) (buffer report : List ℕ) where
   -- the entry itself refuses a length
-  pub refused-by-length : (n : ℕ) → n ≡ ask (eqb (length soft) 1890) 1 (ask (eqb (length report) 78) 2 0) → (n ≡ 0 → ⊥) → {r : ℕ} → r ≡ returned n 0
+  pub refused-by-length : (n : ℕ) → n ≡ ownLengths (length soft) (length report) → (n ≡ 0 → ⊥) → {r : ℕ} → r ≡ returned n 0
       → PageReturned B soft limit buffer report r buffer report
   refused-by-length n asked some e =
-      let no = first-no B soft limit buffer report n asked some in
+      let no = first-no soft report n asked some B limit buffer in
       let due : pageAnswer B soft limit buffer report ≡ refusedPage n 0 = no PageOutcome refusedPage _ in
       record {
         answer = e ∙ ap (λ (x : PageOutcome). returned (x .number) (x .place)) (sym due);
@@ -38,7 +37,7 @@ module _ (B : Buffer) (soft : List ℕ) (limit : ℕ) (buffer report : List ℕ)
       → (newReport : List ℕ) → newReport ≡ reportAfter report o → PageReturned B soft limit buffer report r new newReport
   returned-by-the-call room o new page e newReport is =
       let D = decodedPage supercode soft limit in
-      let same-room = report-has-room B soft limit buffer report room in
+      let same-room = report-has-room B buffer report room in
       let same : o ≡ pageAnswer B soft limit buffer report = page .answer ∙ ap (λ (b : Bool). askPage soft limit b refusedPage (outcomeOf D)) (sym same-room) in
       record {
         answer = e ∙ ap (λ (x : PageOutcome). returned (x .number) (x .place)) same;

@@ -8,6 +8,7 @@ use lib.ListN.{length}
 use Rattle.trellis.specs.Demand.{supercode}
 use Rattle.page.specs.Outcomes.{refusedPage, outcomeOf, dataBuffer, filled, symbolBuffer, Buffer}
 use Rattle.page.specs.declared.PageOutcome.{PageOutcome}
+use Rattle.questions.specs.Questions.{ask}
 use Rattle.store_pages.specs.Pages.{askPage, decodedPage}
 use Rattle.station.specs.Returned.{returned}
 use Rattle.station.specs.Report.{reportBytes}
@@ -15,6 +16,10 @@ use Rattle.station.specs.Report.{reportBytes}
 -- 2: the buffer has its places, and the report 78
 abbrev pub haveRoom : Buffer → List ℕ → List ℕ → Bool
 haveRoom B buffer report = eqb (length buffer) (B .places) && eqb (length report) 78
+
+-- For the code's contracts: the lengths that an entry asks about itself, the soft page's and the report's: 0, or the number of the first no
+abbrev pub ownLengths : ℕ → ℕ → ℕ
+ownLengths soft report = ask (eqb soft 1890) 1 (ask (eqb report 78) 2 0)
 
 -- what an entry that fills such a buffer is due to answer
 abbrev pub pageAnswer : Buffer → List ℕ → ℕ → List ℕ → List ℕ → PageOutcome

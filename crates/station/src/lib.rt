@@ -14,10 +14,8 @@ ghost use Rattle.store_dumps.specs.Dumps.{readAnswer};
 ghost use Rattle.questions.specs.Outcome.{number, place};
 ghost use Rattle.station.specs.Returned.{returned, Returned};
 ghost use Rattle.station.specs.Report.{markBytes, stepsAndTotals, lowBytes};
-ghost use Rattle.station.specs.PageReturned.{reportAfter, PageDecodedForC, PageAskedForC};
+ghost use Rattle.station.specs.PageReturned.{ownLengths, reportAfter, PageDecodedForC, PageAskedForC};
 ghost use Rattle.store_pages.specs.Committing.{commitAnswer, heldBytes};
-ghost use Rattle.questions.specs.Questions.{ask};
-ghost use lib.Dec.{eqb};
 use page::PageOutcome;
 use page::Report;
 use questions::Outcome;
@@ -120,7 +118,7 @@ fn write_low(low: i16, out: &mut [u8])
 
 // The number of the first no to the lengths that a page entry asks about itself: 1 for the soft page, 2 for the report, 0 for none.
 fn lengths_asked(soft: usize, report: usize) -> u64
-    ensures { λ r. ⌜ r ≡ ask (eqb soft 1890) 1 (ask (eqb report 78) 2 0) ⌝ }
+    ensures { λ r. ⌜ r ≡ ownLengths soft report ⌝ }
 {
     if soft != 1890 {
         return 1;

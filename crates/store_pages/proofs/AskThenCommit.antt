@@ -2,7 +2,7 @@
 use mathlib.Core.Bool.{Bool}
 use mathlib.Core.List.{List, []}
 use mathlib.Core.Path.{_≡_, refl, sym, ap, _∙_, subst⁻¹}
-use Prim.Native.Nat.{ℕ, _≤_}
+use Prim.Native.Nat.{ℕ, _<_}
 use native.Mathlib.Omega.{arith}
 use borrow.Author.Tests.{eq-eqb}
 use lib.Dec.{eqb}
@@ -12,14 +12,14 @@ use Rattle.concatenated.specs.Format.{shortPage}
 use Rattle.concatenated.specs.SoftPage.{softColumns}
 use Rattle.concatenated.specs.Decode.{PageAnswer, answered, refused, rows}
 use Rattle.concatenated.specs.Readers.{shortReader}
-use Rattle.concatenated.specs.Written.{bytesOfRows}
-use Rattle.concatenated.specs.Symbols.{rowsIn}
+use Rattle.concatenated.specs.Symbols.{rowIn, rowsIn}
 use Rattle.concatenated.specs.OuterCode.{shortOuter, shortEncoder, ShortCodeword}
 use Rattle.concatenated.proofs.SoftPages.{as-many-columns}
 use Rattle.concatenated.proofs.OuterJoint.{outer-laws}
 use Rattle.concatenated.proofs.Symbols.{row-in-at}
 use Rattle.concatenated.proofs.Answers.{rows-are-codewords}
-use Rattle.concatenated.proofs.RowsWritten.{answered-rows-come-back, answered-symbols-are-a-word}
+use Rattle.concatenated.proofs.RowsWritten.{answered-rows-come-back}
+use Rattle.page.proofs.PageOutcomes.{answer-is-packed}
 use Rattle.page.specs.Outcomes.{refusedPage, outcomeOf, dataBuffer, filled, symbolBuffer, Buffer}
 use Rattle.page.specs.declared.PageOutcome.{PageOutcome}
 use Rattle.questions.specs.Outcome.{after}
@@ -27,7 +27,7 @@ use Rattle.questions.specs.declared.Outcome.{Outcome}
 use Rattle.questions.specs.declared.Outcome.the-variants.{Done, Refused}
 use Rattle.store_pages.specs.Pages.{askPage, decodedPage, PageFilled, PageDecoded, PageAsked}
 use Rattle.store_pages.specs.Committing.{heldBytes, Committed, FourWords}
-use Rattle.store_pages.proofs.Asked.{every-way, settled}
+use Rattle.store_pages.proofs.Asked.{settled, Numbered, refusals-are-numbered}
 use Rattle.store_pages.proofs.Committing.{commit-accepts-exactly}
 
 module _ (s : Search) (soft : List ℕ) (limit : ℕ) where
@@ -40,39 +40,28 @@ module _ (s : Search) (soft : List ℕ) (limit : ℕ) where
   -- a call that answers gives what the page's answer makes
   answered-call : (B : Buffer) (old : List ℕ) (r : PageOutcome) (new : List ℕ) → PageFilled B s soft limit old r new → r .number ≡ 0
       → (r ≡ outcomeOf (decodedPage s soft limit)) × (new ≡ filled B old (decodedPage s soft limit))
-  answered-call B old r new call done = go (askPage soft limit room Refused Done) refl (every-way soft limit room Numbered Refused Done (λ n p some few near. some) (λ most. tt))
+  answered-call B old r new call done = go (askPage soft limit room Refused Done) refl (refusals-are-numbered soft limit room)
     where
       room : Bool
       room = eqb (length old) (B .places)
 
-      -- a refusal has a number other than 0
-      Numbered : Outcome → Type 0
-      Numbered Done = Unit {0}
-      Numbered (Refused n p) = 1 ≤ n
-
-      go : (o : Outcome) → o ≡ askPage soft limit room Refused Done → Numbered o → (r ≡ outcomeOf (decodedPage s soft limit)) × (new ≡ filled B old (decodedPage s soft limit))
+      go : (o : Outcome) → o ≡ askPage soft limit room Refused Done → Numbered soft limit room o → (r ≡ outcomeOf (decodedPage s soft limit)) × (new ≡ filled B old (decodedPage s soft limit))
       go Done e h = (call .answer ∙ settled soft limit room refusedPage _ Done e, call .bytes ∙ settled soft limit room (λ n p. old) _ Done e)
       go (Refused n p) e h =
           let number : r .number ≡ n = ap (λ (x : PageOutcome). x .number) (call .answer ∙ settled soft limit room refusedPage _ (Refused n p) e) in
           absurd (omega (arith, number, done, h))
 
-  -- the symbols that an answer filled in are four words, and their rows hold its data
-  module _ (old symbols : List ℕ) where
-    filled-in : (d : PageAnswer) → decodedPage s soft limit ≡ d → outcomeOf d .number ≡ 0 → symbols ≡ filled symbolBuffer old d → FourWords symbols × ((kept : List ℕ) → heldBytes symbols ≡ filled dataBuffer kept d)
-    unfolding outcomeOf filled
-    filled-in (refused l) e z is = absurd (omega (arith, z))
-    filled-in (answered ls n) e z is =
-        let read = shortReader s limit in
-        let page = softColumns shortPage soft in
-        let wide = as-many-columns shortPage soft in
-        let back : rowsIn shortPage symbols ≡ rows ls = ap (rowsIn shortPage) is ∙ answered-rows-come-back shortPage shortOuter shortEncoder ShortCodeword outer-laws read page wide ls n e in (
-          record {
-            long = ap length is ∙ answered-symbols-are-a-word shortPage shortOuter shortEncoder ShortCodeword outer-laws read page wide ls n e .0;
-            words = λ i h. subst⁻¹ (ShortCodeword i) (sym (row-in-at shortPage symbols i h) ∙ ap (λ (x : List (List ℕ)). getD x i []) back)
-                (rows-are-codewords shortPage shortOuter shortEncoder ShortCodeword outer-laws read page wide ls n e i h);
-          },
-          λ kept. ap (bytesOfRows shortPage) back,
-        )
+  -- the symbols that an answer filled in are words in all four rows
+  filled-in-words : (old symbols : List ℕ) (d : PageAnswer) → decodedPage s soft limit ≡ d → outcomeOf d .number ≡ 0 → symbols ≡ filled symbolBuffer old d → (i : ℕ) → i < 4 → ShortCodeword i (rowIn shortPage symbols i)
+  unfolding outcomeOf filled
+  filled-in-words old symbols (refused l) e z is i h = absurd (omega (arith, z))
+  filled-in-words old symbols (answered ls n) e z is i h =
+      let read = shortReader s limit in
+      let page = softColumns shortPage soft in
+      let wide = as-many-columns shortPage soft in
+      let back : rowsIn shortPage symbols ≡ rows ls = ap (rowsIn shortPage) is ∙ answered-rows-come-back shortPage shortOuter shortEncoder ShortCodeword outer-laws read page wide ls n e in
+      subst⁻¹ (ShortCodeword i) (sym (row-in-at shortPage symbols i h) ∙ ap (λ (x : List (List ℕ)). getD x i []) back)
+      (rows-are-codewords shortPage shortOuter shortEncoder ShortCodeword outer-laws read page wide ls n e i h)
 
   -- "committing the filled buffer unaltered writes that decode's bytes"
   pub committing-what-was-asked-writes-the-decoded-bytes : (oldSymbols oldData kept : List ℕ) (asked decoded : PageOutcome) (committed : Outcome) (newSymbols newData written : List ℕ)
@@ -84,6 +73,7 @@ module _ (s : Search) (soft : List ℕ) (limit : ℕ) where
       let a = answered-call symbolBuffer oldSymbols asked newSymbols ask done in
       let same = asking-gives-one-decodes-report oldSymbols oldData asked decoded newSymbols newData full room ask decode in
       let b = answered-call dataBuffer oldData decoded newData decode (ap (λ (x : PageOutcome). x .number) (sym same) ∙ done) in
-      let filled = filled-in oldSymbols newSymbols D refl (ap (λ (x : PageOutcome). x .number) (sym (a .0)) ∙ done) (a .1) in
-      let taken = commit-accepts-exactly newSymbols kept committed written commit .1 (filled .0, has-room) in
-      (taken, commit .bytes ∙ ap (λ (o : Outcome). after o (heldBytes newSymbols) kept) (sym (commit .answer) ∙ taken) ∙ filled .1 oldData ∙ sym (b .1))
+      let packed = answer-is-packed (shortReader s limit) (softColumns shortPage soft) asked (a .0) (as-many-columns shortPage soft) done oldSymbols newSymbols (a .1) in
+      let four : FourWords newSymbols = record { long = packed .0 .0; words = filled-in-words oldSymbols newSymbols D refl (ap (λ (x : PageOutcome). x .number) (sym (a .0)) ∙ done) (a .1) } in
+      let taken = commit-accepts-exactly newSymbols kept committed written commit .1 (four, has-room) in
+      (taken, commit .bytes ∙ ap (λ (o : Outcome). after o (heldBytes newSymbols) kept) (sym (commit .answer) ∙ taken) ∙ packed .1 oldData (heldBytes newSymbols) refl ∙ sym (b .1))

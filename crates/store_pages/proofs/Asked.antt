@@ -74,6 +74,14 @@ module _ (soft : List ℕ) (limit : ℕ) (room : Bool) where
       go true true true true false = refl
       go true true true true true = refl
 
+  -- a refusal has a number other than 0
+  abbrev pub Numbered : Outcome → Type 0
+  Numbered Done = Unit {0}
+  Numbered (Refused n p) = 1 ≤ n
+
+  pub refusals-are-numbered : Numbered (askPage soft limit room Refused Done)
+  refusals-are-numbered = every-way Numbered Refused Done (λ n p some few near. some) (λ most. tt)
+
 -- so a call that gives the refusal and keeps the buffer, or what the page's answer gives, gives what is due
 module _ (B : Buffer) (s : Search) (soft : List ℕ) (limit : ℕ) (old : List ℕ) where
   pub refused-as : (n p : ℕ) → Refused n p ≡ askPage soft limit (eqb (length old) (B .places)) Refused Done → (r : PageOutcome) → r ≡ refusedPage n p → PageFilled B s soft limit old r old

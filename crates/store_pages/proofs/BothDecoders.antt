@@ -1,10 +1,10 @@
 -- decode_page and decode_page_whole, ask_page and ask_page_whole: demand 3 for pages, carried to the calls by their contracts. Assumes nothing.
-use mathlib.Core.Bool.{Bool, true, false}
+use mathlib.Core.Bool.{Bool}
 use mathlib.Core.List.{List}
-use mathlib.Core.Path.{_≡_, refl, sym, ap, _∙_, subst}
+use mathlib.Core.Path.{_≡_, refl, sym, ap, _∙_, subst, subst⁻¹}
 use Prim.Native.Nat.{ℕ}
 use native.Mathlib.Omega.{arith}
-use lib.Dec.{eqb, leb}
+use lib.Dec.{eqb}
 use lib.ListN.{length}
 use Rattle.column.specs.Shape.{short}
 use Rattle.trellis.specs.Values.{levelValues}
@@ -18,9 +18,11 @@ use Rattle.concatenated.specs.Marks.{changedMarks, erasedMarks}
 use Rattle.page.specs.Outcomes.{changedTotals, erasedTotals, refusedPage, outcomeOf, dataBuffer, filled, symbolBuffer, Buffer}
 use Rattle.page.specs.declared.PageOutcome.{PageOutcome}
 use Rattle.concatenated.proofs.Short.{decoders-agree}
-use Rattle.questions.specs.Questions.{ask, firstAbove}
+use Rattle.questions.specs.declared.Outcome.{Outcome}
+use Rattle.questions.specs.declared.Outcome.the-variants.{Done, Refused}
 use Rattle.store_pages.specs.Pages.{decodedPage, askPage, PageFilled, PageDecoded, PageAsked}
 use Rattle.store_pages.specs.BothDecoders.{SameButSteps}
+use Rattle.store_pages.proofs.Asked.{settled, Numbered, refusals-are-numbered}
 
 outcomes-agree : (d : ℕ) (w s : PageAnswer) → Agree d w s → SameButSteps d (outcomeOf s) (outcomeOf w)
 unfolding outcomeOf
@@ -51,18 +53,15 @@ refusals-agree d n p some = record { number = refl; place = refl; changed = refl
 
 -- the same questions lead both calls to the same refusal, or both on
 asked-alike : (d : ℕ) (soft : List ℕ) (limit : ℕ) (room : Bool) (s w : PageOutcome) → SameButSteps d s w → SameButSteps d (askPage soft limit room refusedPage s) (askPage soft limit room refusedPage w)
-asked-alike d soft limit room s w same =
-    go (eqb (length soft) 1890) room (leb 1 limit) (leb limit 2000) (leb 1890 (firstAbove soft 7))
+asked-alike d soft limit room s w same = go (askPage soft limit room Refused Done) refl (refusals-are-numbered soft limit room)
   where
-    go : (a b c e f : Bool)
-        → SameButSteps d (ask a (refusedPage 1 0) (ask b (refusedPage 2 0) (ask c (refusedPage 4 0) (ask e (refusedPage 4 0) (ask f (refusedPage 5 (firstAbove soft 7)) s)))))
-        (ask a (refusedPage 1 0) (ask b (refusedPage 2 0) (ask c (refusedPage 4 0) (ask e (refusedPage 4 0) (ask f (refusedPage 5 (firstAbove soft 7)) w)))))
-    go false b c e f = refusals-agree d 1 0 (λ z. absurd (omega arith))
-    go true false c e f = refusals-agree d 2 0 (λ z. absurd (omega arith))
-    go true true false e f = refusals-agree d 4 0 (λ z. absurd (omega arith))
-    go true true true false f = refusals-agree d 4 0 (λ z. absurd (omega arith))
-    go true true true true false = refusals-agree d 5 (firstAbove soft 7) (λ z. absurd (omega arith))
-    go true true true true true = same
+    both : (x y : PageOutcome) → askPage soft limit room refusedPage s ≡ x → askPage soft limit room refusedPage w ≡ y → SameButSteps d x y → SameButSteps d (askPage soft limit room refusedPage s) (askPage soft limit room refusedPage w)
+    both x y ex ey h = subst⁻¹ (λ (o : PageOutcome). SameButSteps d o (askPage soft limit room refusedPage w)) ex (subst⁻¹ (SameButSteps d x) ey h)
+
+    go : (o : Outcome) → o ≡ askPage soft limit room Refused Done → Numbered soft limit room o → SameButSteps d (askPage soft limit room refusedPage s) (askPage soft limit room refusedPage w)
+    go Done e h = both s w (settled soft limit room refusedPage s Done e) (settled soft limit room refusedPage w Done e) same
+    go (Refused n p) e h =
+        both (refusedPage n p) (refusedPage n p) (settled soft limit room refusedPage s (Refused n p) e) (settled soft limit room refusedPage w (Refused n p) e) (refusals-agree d n p (λ z. absurd (omega (arith, h, z))))
 
 module _ (soft : List ℕ) (limit : ℕ) (none-spent : NoneSpent short shortOuter (shortReader supercode limit) (softColumns shortPage soft)) where
   -- all dead paths ahead of the codewords of the page's column searches together

@@ -1,14 +1,15 @@
 -- 02, point 7, of the call: which buffers committing takes and which it turns away by 14, and that what it writes encodes to their rows again. Assumes nothing.
-use mathlib.Core.Bool.{Bool, true, false, true≢false}
+use mathlib.Core.Bool.{true, false, true≢false}
 use mathlib.Core.List.{List, []}
 use mathlib.Core.Logic.{_↔_, ⊎-elim}
-use mathlib.Core.Path.{_≡_, refl, sym, ap, _∙_, subst, subst⁻¹}
+use mathlib.Core.Path.{_≡_, sym, ap, _∙_, subst, subst⁻¹}
 use Prim.Native.Nat.{ℕ, _*_, _≤_, _<_}
 use native.Mathlib.Decide.{ℕ-discrete}
 use native.Mathlib.Omega.{arith}
 use borrow.Author.Tests.{eq-eqb, eqb-true, le-leb, leb-true, leb-false, lt-leb}
 use lib.Dec.{eqb, leb, lit<}
 use lib.ListN.{length, getD}
+use Rattle.paths.proofs.Booleans.{is-false}
 use Rattle.poly.proofs.Sum.{lt-or-le}
 use Rattle.field.proofs.Short.{primitive64}
 use Rattle.reedsolomon.specs.Search.{WordOf}
@@ -23,7 +24,7 @@ use Rattle.concatenated.specs.OuterCode.{shortOuter, shortEncoder, ShortCodewor
 use Rattle.concatenated.proofs.Digits.{repacked-length}
 use Rattle.concatenated.proofs.Short.{short-page-sound}
 use Rattle.concatenated.proofs.OuterJoint.{outer-laws, short-codeword-is-told, told-is-a-short-codeword}
-use Rattle.concatenated.proofs.Symbols.{row-after-row-is-a-word, buffer-is-its-rows, as-many-rows, row-in-at, row-in-is-a-word, lowest-no-word-is-it, lowest-no-word-is-the-only-one}
+use Rattle.concatenated.proofs.Symbols.{row-after-row-is-a-word, buffer-is-its-rows, as-many-rows-in, row-in-at, row-in-is-a-word, lowest-no-word-is-it, lowest-no-word-is-the-only-one}
 use Rattle.concatenated.proofs.RowsWritten.{rows-are-written-again}
 use Rattle.questions.specs.Outcome.{after}
 use Rattle.questions.specs.Questions.{firstAbove}
@@ -57,24 +58,20 @@ module _ (symbols : List ℕ) where
     tells code = short-codeword-is-told i (getD rs i []) (subst⁻¹ (ShortCodeword i) (row-in-at shortPage symbols i h) code)
 
     none-told : WordOf 64 252 symbols → (ShortCodeword i (rowIn shortPage symbols i) → ⊥) → isShortCodeword i (getD rs i []) ≡ false
-    none-told word other = go (isShortCodeword i (getD rs i [])) (told word)
-      where
-        go : (b : Bool) → (b ≡ true → ShortCodeword i (rowIn shortPage symbols i)) → b ≡ false
-        go true f = absurd (other (f refl))
-        go false f = refl
+    none-told word other = is-false (isShortCodeword i (getD rs i [])) (λ e. other (told word e))
 
   -- four words are a word of symbols
   four-words-are-a-word : FourWords symbols → WordOf 64 252 symbols
   four-words-are-a-word four =
       let all = row-after-row-is-a-word 64 63 rs (λ i h.
-      let inside : i < 4 = omega (arith, as-many-rows shortPage symbols, h) in
+      let inside : i < 4 = omega (arith, as-many-rows-in shortPage symbols, h) in
       subst⁻¹ (WordOf 64 63) (row-in-at shortPage symbols i inside) (four .words i inside .word)) in
-      (four .long, subst (WordOf 64 252) (buffer-is-its-rows shortPage symbols (four .long)) (subst (λ (n : ℕ). WordOf 64 (n * 63) (rowAfterRow rs)) (as-many-rows shortPage symbols) (all .1)) .1)
+      (four .long, subst (WordOf 64 252) (buffer-is-its-rows shortPage symbols (four .long)) (subst (λ (n : ℕ). WordOf 64 (n * 63) (rowAfterRow rs)) (as-many-rows-in shortPage symbols) (all .1)) .1)
 
   no-row-is-bad : FourWords symbols → 4 ≤ noWordIn symbols
   no-row-is-bad four =
       ⊎-elim
-      (λ l. absurd (true≢false (sym (tells (noWordIn symbols) l (four .words (noWordIn symbols) l)) ∙ lowest .no-word (omega (arith, as-many-rows shortPage symbols, l)))))
+      (λ l. absurd (true≢false (sym (tells (noWordIn symbols) l (four .words (noWordIn symbols) l)) ∙ lowest .no-word (omega (arith, as-many-rows-in shortPage symbols, l)))))
       (λ l. l)
       (lt-or-le (noWordIn symbols) 4)
 
@@ -109,7 +106,7 @@ module _ (symbols : List ℕ) where
               in-range = record { size = word .0; range = λ k h. omega (arith, word .1 k h) };
               level-exists = exists;
               words-below = λ i h. told i (omega (arith, h, exists)) word (here .words-below i h);
-              no-word = λ code. true≢false (sym (tells level exists code) ∙ here .no-word (omega (arith, as-many-rows shortPage symbols, exists)));
+              no-word = λ code. true≢false (sym (tells level exists code) ∙ here .no-word (omega (arith, as-many-rows-in shortPage symbols, exists)));
             },
             eqb-true _ _ (two .0),
           ),
@@ -117,7 +114,7 @@ module _ (symbols : List ℕ) where
           let at = given .0 in
           let word : WordOf 64 252 symbols = (at .in-range .size, λ k h. let small : getD symbols k 0 ≤ 63 = at .in-range .range k h in omega arith) in
           let none = none-told level (at .level-exists) word (at .no-word) in
-          let here : LowestNoWord isShortCodeword rs level = record { within = omega (arith, at .level-exists, as-many-rows shortPage symbols); words-below = λ i h. tells i (omega (arith, h, at .level-exists)) (at .words-below i h); no-word = λ h. none } in
+          let here : LowestNoWord isShortCodeword rs level = record { within = omega (arith, at .level-exists, as-many-rows-in shortPage symbols); words-below = λ i h. tells i (omega (arith, h, at .level-exists)) (at .words-below i h); no-word = λ h. none } in
           let same = lowest-no-word-is-the-only-one isShortCodeword rs (noWordIn symbols) level lowest here in
           let bad : noWordIn symbols < 4 = omega (arith, same, at .level-exists) in
           let due : commitAnswer symbols old ≡ Refused 14 (noWordIn symbols) = simp (eq-eqb _ _ (word .0), eq-eqb _ _ (given .1), word-is-in-range symbols word, lt-leb _ _ bad) in
@@ -132,7 +129,7 @@ module _ (symbols : List ℕ) where
         let is : new ≡ heldBytes symbols = call .bytes ∙ ap (λ (o : Outcome). after o (heldBytes symbols) old) (sym (call .answer) ∙ done) in
         let again =
         ap (writtenRows shortPage shortEncoder) is
-        ∙ rows-are-written-again shortPage short-page-sound shortOuter shortEncoder ShortCodeword outer-laws rs (as-many-rows shortPage symbols)
+        ∙ rows-are-written-again shortPage short-page-sound shortOuter shortEncoder ShortCodeword outer-laws rs (as-many-rows-in shortPage symbols)
         (λ i h. subst⁻¹ (ShortCodeword i) (row-in-at shortPage symbols i h) (taken .0 .words i h)) in
         record {
           long = ap length is ∙ repacked-length 64 4 256 3 50 _;

@@ -1,4 +1,4 @@
--- 01: the two decoders, as calls: what demand 3 says that `decode_page` and `decode_page_whole` have in common. Assumes nothing.
+-- 01: the two decoders, as calls: what demand 3 says that `decode_page` and `decode_page_whole`, and `ask_page` and `ask_page_whole`, have in common. Assumes nothing.
 use mathlib.Core.Path.{_≡_}
 use Prim.Native.Nat.{ℕ, _+_}
 use Rattle.page.specs.declared.PageOutcome.{PageOutcome}

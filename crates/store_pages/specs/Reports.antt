@@ -1,4 +1,4 @@
--- 02, what holds of the report of either page decoder: point 6, "column j at bit j", "The totals stay and equal the number of ones in each mark"; point 8, the low point. Assumes nothing.
+-- 02, what holds of the report of either page decoder and of asking by either: point 6, "column j at bit j", "The totals stay and equal the number of ones in each mark"; point 8, the low point. Assumes nothing.
 use mathlib.Core.List.{List, map}
 use mathlib.Core.Path.{_≡_}
 use Prim.Native.Nat.{ℕ, _+_, _^_, _<_}

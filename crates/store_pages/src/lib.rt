@@ -1,4 +1,4 @@
-// Page calls: 01, "Rows and page".
+// Page calls: 01, "Rows and page", and 02, point 7, asking and committing.
 ghost use mathlib.Core.Path.{_≡_};
 ghost use Prim.Native.Nat.{_*_, _<_};
 ghost use lib.ListN.{length};

@@ -1,5 +1,5 @@
 -- The search on keys with tables of masks is the search on the trellis's paths. Assumes nothing.
-use mathlib.Core.Bool.{Bool, true, false, _&&_}
+use mathlib.Core.Bool.{Bool, true, false, _&&_, and-true}
 use mathlib.Core.List.{List, [], _∷_}
 use mathlib.Core.Logic.{_↔_, _⊎_, inl, inr, ⊎-elim}
 use mathlib.Core.Path.{_≡_, refl, sym, ap, ap₂, _∙_, subst, subst⁻¹}
@@ -40,10 +40,6 @@ bool-ext : (a b : Bool) → (a ≡ true → b ≡ true) → (b ≡ true → a �
 bool-ext true b f g = sym (f refl)
 bool-ext false true f g = g refl
 bool-ext false false f g = refl
-
-and-true : (a : Bool) → (a && true) ≡ a
-and-true true = refl
-and-true false = refl
 
 -- the newest bit of p passes a table's check
 passes : List ℕ → Path → Bool

@@ -25,7 +25,7 @@ pack-requires c κs =
     let read = shortReader (searchOf (start .args .in-supercodes)) (start .args .limit) in
     let page = softColumns shortPage (start .args .soft .now) in
     let wide = as-many-columns shortPage (start .args .soft .now) in
-    (answer-is-packed read page wide _ (asked .0) (c .before .before .if1 .taken) _ _ (asked .1) .0, start .pre .3)
+    (answer-is-packed read page _ (asked .0) wide (c .before .before .if1 .taken) _ _ (asked .1) .0, start .pre .3)
 
 same-length : tie.Need-same-length
 same-length c = search needs
@@ -37,7 +37,7 @@ returns c =
     let read = shortReader (searchOf (start .args .in-supercodes)) (start .args .limit) in
     let page = softColumns shortPage (start .args .soft .now) in
     let wide = as-many-columns shortPage (start .args .soft .now) in
-    (asked .0, answer-is-packed read page wide _ (asked .0) (c .before .before .before .before .before .if1 .taken) _ _ (asked .1) .1 _ _ (c .before .before .pack .ensures))
+    (asked .0, answer-is-packed read page _ (asked .0) wide (c .before .before .before .before .before .if1 .taken) _ _ (asked .1) .1 _ _ (c .before .before .pack .ensures))
 
 returns-2 : tie.Need-returns-2
 returns-2 c =
@@ -45,8 +45,7 @@ returns-2 c =
     let start = c .before .before .before .before .before .before .before in
     let read = shortReader (searchOf (start .args .in-supercodes)) (start .args .limit) in
     let page = softColumns shortPage (start .args .soft .now) in
-    let wide = as-many-columns shortPage (start .args .soft .now) in
-    (asked .0, refusal-is-not-packed read page wide _ (asked .0) (c .if1 .left) _)
+    (asked .0, refusal-is-not-packed read page _ (asked .0) (c .if1 .left) _)
 
 pub decode-page-spec : {M : Type 1} → statement M
 decode-page-spec =

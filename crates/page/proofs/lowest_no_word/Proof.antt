@@ -12,7 +12,7 @@ use Rattle.concatenated.specs.Format.{shortPage}
 use Rattle.concatenated.specs.Symbols.{rowsIn, lowestNoWord}
 use Rattle.concatenated.specs.OuterCode.{isShortCodeword}
 use Rattle.concatenated.proofs.DataGroups.{row-cut-out, cut-out-row-is-a-word}
-use Rattle.concatenated.proofs.Symbols.{as-many-rows, lowest-lies-above, lowest-is-here, lowest-is-none}
+use Rattle.concatenated.proofs.Symbols.{as-many-rows-in, lowest-lies-above, lowest-is-here, lowest-is-none}
 use native.Mathlib.Omega.{arith}
 use borrow.Author.Needs.{needs}
 use Rattle.page.proofs.lowest_no_word.Statement.{statement}
@@ -67,7 +67,7 @@ returns c =
     let h = c .before .before .before .before .loop-test .taken in
     let symbols = turn .before .before .args .symbols .now in
     let none = sym (tested symbols (turn .loop .level) _ _ h (c .before .before .roots .ensures .0) (c .before .is-codeword .ensures)) ∙ not-true _ (c .if1 .taken) in
-    sym (turn .loop .inv .1 ∙ lowest-is-here isShortCodeword (rowsIn shortPage symbols) (turn .loop .level) (omega (arith, as-many-rows shortPage symbols, h)) none)
+    sym (turn .loop .inv .1 ∙ lowest-is-here isShortCodeword (rowsIn shortPage symbols) (turn .loop .level) (omega (arith, as-many-rows-in shortPage symbols, h)) none)
 
 add-level : tie.Need-add-level Inv-loop μ-loop
 add-level c = search needs
@@ -81,13 +81,13 @@ loop-again c =
     let h = c .before .before .before .before .loop-test .taken in
     let symbols = turn .before .before .args .symbols .now in
     let word = sym (tested symbols (turn .loop .level) _ _ h (c .before .before .roots .ensures .0) (c .before .is-codeword .ensures)) ∙ not-false _ (c .if1 .left) in
-    (omega arith, turn .loop .inv .1 ∙ lowest-lies-above isShortCodeword (rowsIn shortPage symbols) (turn .loop .level) (omega (arith, as-many-rows shortPage symbols, h)) word)
+    (omega arith, turn .loop .inv .1 ∙ lowest-lies-above isShortCodeword (rowsIn shortPage symbols) (turn .loop .level) (omega (arith, as-many-rows-in shortPage symbols, h)) word)
 
 returns-2 : tie.Need-returns-2 Inv-loop μ-loop
 returns-2 c =
     let turn = c .before in
     let symbols = turn .before .before .args .symbols .now in
-    sym (turn .loop .inv .1 ∙ lowest-is-none isShortCodeword (rowsIn shortPage symbols) (turn .loop .level) (omega (arith, as-many-rows shortPage symbols, turn .loop .inv .0, c .loop-test .left)))
+    sym (turn .loop .inv .1 ∙ lowest-is-none isShortCodeword (rowsIn shortPage symbols) (turn .loop .level) (omega (arith, as-many-rows-in shortPage symbols, turn .loop .inv .0, c .loop-test .left)))
 
 pub lowest-no-word-spec : {M : Type 1} → statement M
 lowest-no-word-spec =

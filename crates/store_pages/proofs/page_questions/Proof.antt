@@ -1,6 +1,6 @@
 -- `store_pages::page_questions` meets its contract: each return rewrites with the tests that led there. Assumes nothing.
-use mathlib.Core.Path.{ap, _∙_, subst}
-use Prim.Native.Nat.{ℕ, _≤_, _<_}
+use mathlib.Core.Path.{ap, _∙_}
+use Prim.Native.Nat.{_≤_, _<_}
 use Rattle.questions.specs.Questions.{firstAbove}
 use Rattle.questions.specs.declared.Outcome.the-variants.{Refused}
 use borrow.Author.Tests.{eq-eqb, ne-eqb, le-leb, lt-leb, not-true, not-false}
@@ -22,8 +22,10 @@ returns-3 c =
 
 returns-4 : tie.Need-returns-4
 returns-4 c =
-    let some : 1 ≤ c .before .before .before .before .before .args .limit = omega (arith, c .before .if3 .left) in
-    simp (eq-eqb _ _ (c .before .before .before .if1 .left), not-false (c .before .before .before .before .before .args .room) (c .before .before .if2 .left), le-leb _ _ some, lt-leb _ _ (c .if4 .taken))
+    let args = c .before .before .before .before .before .args in
+    let some : 1 ≤ args .limit = omega (arith, c .before .if3 .left) in
+    let high : 2000 < args .limit = omega (arith, c .if4 .taken) in
+    simp (eq-eqb _ _ (c .before .before .before .if1 .left), not-false (args .room) (c .before .before .if2 .left), le-leb _ _ some, lt-leb _ _ high)
 
 first-above-requires : tie.Need-first-above-requires
 first-above-requires c κs = search needs
@@ -32,15 +34,17 @@ returns-5 : tie.Need-returns-5
 returns-5 c =
     let args = c .before .before .before .before .before .before .before .args in
     let some : 1 ≤ args .limit = omega (arith, c .before .before .before .if3 .left) in
-    let bad : firstAbove (args .soft .now) 7 < 1890 = subst (λ (t : ℕ). t < 1890) (c .before .first-above .ensures) (c .if5 .taken) in
-    ap (Refused 5) (c .before .first-above .ensures) ∙ simp (eq-eqb _ _ (c .before .before .before .before .before .if1 .left), not-false (args .room) (c .before .before .before .before .if2 .left), le-leb _ _ some, le-leb _ _ (c .before .before .if4 .left), lt-leb _ _ bad)
+    let most : args .limit ≤ 2000 = omega (arith, c .before .before .if4 .left) in
+    let bad : firstAbove (args .soft .now) 7 < 1890 = omega (arith, c .before .first-above .ensures, c .if5 .taken) in
+    ap (Refused 5) (c .before .first-above .ensures) ∙ simp (eq-eqb _ _ (c .before .before .before .before .before .if1 .left), not-false (args .room) (c .before .before .before .before .if2 .left), le-leb _ _ some, le-leb _ _ most, lt-leb _ _ bad)
 
 returns-6 : tie.Need-returns-6
 returns-6 c =
     let args = c .before .before .before .before .before .before .before .args in
     let some : 1 ≤ args .limit = omega (arith, c .before .before .before .if3 .left) in
-    let good : 1890 ≤ firstAbove (args .soft .now) 7 = subst (λ (t : ℕ). 1890 ≤ t) (c .before .first-above .ensures) (c .if5 .left) in
-    simp (eq-eqb _ _ (c .before .before .before .before .before .if1 .left), not-false (args .room) (c .before .before .before .before .if2 .left), le-leb _ _ some, le-leb _ _ (c .before .before .if4 .left), le-leb _ _ good)
+    let most : args .limit ≤ 2000 = omega (arith, c .before .before .if4 .left) in
+    let good : 1890 ≤ firstAbove (args .soft .now) 7 = omega (arith, c .before .first-above .ensures, c .if5 .left) in
+    simp (eq-eqb _ _ (c .before .before .before .before .before .if1 .left), not-false (args .room) (c .before .before .before .before .if2 .left), le-leb _ _ some, le-leb _ _ most, le-leb _ _ good)
 
 pub page-questions-spec : {M : Type 1} → statement M
 page-questions-spec =
