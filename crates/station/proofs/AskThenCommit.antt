@@ -9,7 +9,7 @@ use lib.ListN.{length}
 use Rattle.trellis.specs.Demand.{supercode}
 use Rattle.page.specs.Outcomes.{refusedPage, outcomeOf, dataBuffer, filled, symbolBuffer, Buffer}
 use Rattle.page.specs.declared.PageOutcome.{PageOutcome}
-use Rattle.questions.specs.Outcome.{number, place}
+use Rattle.questions.specs.Outcome.{number, place, after}
 use Rattle.questions.specs.declared.Outcome.{Outcome}
 use Rattle.store_pages.specs.Pages.{askPage, decodedPage, PageFilled}
 use Rattle.store_pages.specs.Committing.{commitAnswer, heldBytes, Committed}
@@ -55,10 +55,12 @@ module _ (soft : List ℕ) (limit : ℕ) (oldSymbols oldData askReport decodeRep
       → Returned (commitAnswer newSymbols kept) (heldBytes newSymbols) kept committed written → (committed ≡ 0) × (written ≡ newData)
   committing-writes-what-decoding-writes done kept has-room committed written commit =
       let due = commitAnswer newSymbols kept in
-      let call : Committed newSymbols kept due written = record { answer = refl; number = refl; place = refl; bytes = commit .bytes } in
+      let made = heldBytes newSymbols in
+      let call : Committed newSymbols kept due (after due made kept) = record { answer = refl; number = refl; place = refl; bytes = refl } in
       let answered : pageAnswer symbolBuffer soft limit oldSymbols askReport .number ≡ 0 = omega (arith, ask .answer, done) in
       let both =
-      committing-what-was-asked-writes-the-decoded-bytes supercode soft limit oldSymbols oldData kept _ _ due newSymbols newData written full room has-room
+      committing-what-was-asked-writes-the-decoded-bytes supercode soft limit oldSymbols oldData kept _ _ due newSymbols newData (after due made kept) full room has-room
       (as-the-call symbolBuffer soft limit oldSymbols askReport asked newSymbols newAskReport ask-room ask) answered
       (as-the-call dataBuffer soft limit oldData decodeReport decoded newData newDecodeReport decode-room decode) call in
-      (commit .answer ∙ ap (λ (o : Outcome). returned (number o) (place o)) (both .0), both .1)
+      let done-with : (old : List ℕ) → after due made old ≡ made = λ old. ap (λ (o : Outcome). after o made old) (both .0) in
+      (commit .answer ∙ ap (λ (o : Outcome). returned (number o) (place o)) (both .0), commit .bytes ∙ done-with _ ∙ sym (done-with kept) ∙ both .1)

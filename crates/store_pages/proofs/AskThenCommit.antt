@@ -11,7 +11,6 @@ use Rattle.trellis.specs.Demand.{Search}
 use Rattle.concatenated.specs.Format.{shortPage}
 use Rattle.concatenated.specs.SoftPage.{softColumns}
 use Rattle.concatenated.specs.Decode.{PageAnswer, answered, refused, rows}
-use Rattle.concatenated.specs.Readers.{shortReader}
 use Rattle.concatenated.specs.Symbols.{rowIn, rowsIn}
 use Rattle.concatenated.specs.OuterCode.{shortOuter, shortEncoder, ShortCodeword}
 use Rattle.concatenated.proofs.SoftPages.{as-many-columns}
@@ -56,12 +55,11 @@ module _ (s : Search) (soft : List ℕ) (limit : ℕ) where
   unfolding outcomeOf filled
   filled-in-words old symbols (refused l) e z is i h = absurd (omega (arith, z))
   filled-in-words old symbols (answered ls n) e z is i h =
-      let read = shortReader s limit in
       let page = softColumns shortPage soft in
       let wide = as-many-columns shortPage soft in
-      let back : rowsIn shortPage symbols ≡ rows ls = ap (rowsIn shortPage) is ∙ answered-rows-come-back shortPage shortOuter shortEncoder ShortCodeword outer-laws read page wide ls n e in
+      let back : rowsIn shortPage symbols ≡ rows ls = ap (rowsIn shortPage) is ∙ answered-rows-come-back shortPage shortOuter shortEncoder ShortCodeword outer-laws _ page wide ls n e in
       subst⁻¹ (ShortCodeword i) (sym (row-in-at shortPage symbols i h) ∙ ap (λ (x : List (List ℕ)). getD x i []) back)
-      (rows-are-codewords shortPage shortOuter shortEncoder ShortCodeword outer-laws read page wide ls n e i h)
+      (rows-are-codewords shortPage shortOuter shortEncoder ShortCodeword outer-laws _ page wide ls n e i h)
 
   -- "committing the filled buffer unaltered writes that decode's bytes"
   pub committing-what-was-asked-writes-the-decoded-bytes : (oldSymbols oldData kept : List ℕ) (asked decoded : PageOutcome) (committed : Outcome) (newSymbols newData written : List ℕ)
@@ -73,7 +71,7 @@ module _ (s : Search) (soft : List ℕ) (limit : ℕ) where
       let a = answered-call symbolBuffer oldSymbols asked newSymbols ask done in
       let same = asking-gives-one-decodes-report oldSymbols oldData asked decoded newSymbols newData full room ask decode in
       let b = answered-call dataBuffer oldData decoded newData decode (ap (λ (x : PageOutcome). x .number) (sym same) ∙ done) in
-      let packed = answer-is-packed (shortReader s limit) (softColumns shortPage soft) asked (a .0) (as-many-columns shortPage soft) done oldSymbols newSymbols (a .1) in
+      let packed = answer-is-packed _ (softColumns shortPage soft) asked (a .0) (as-many-columns shortPage soft) done oldSymbols newSymbols (a .1) in
       let four : FourWords newSymbols = record { long = packed .0 .0; words = filled-in-words oldSymbols newSymbols D refl (ap (λ (x : PageOutcome). x .number) (sym (a .0)) ∙ done) (a .1) } in
       let taken = commit-accepts-exactly newSymbols kept committed written commit .1 (four, has-room) in
       (taken, commit .bytes ∙ ap (λ (o : Outcome). after o (heldBytes newSymbols) kept) (sym (commit .answer) ∙ taken) ∙ packed .1 oldData (heldBytes newSymbols) refl ∙ sym (b .1))
