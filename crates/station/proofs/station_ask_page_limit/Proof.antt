@@ -26,7 +26,7 @@ ask-page-requires c κs = search needs
 returned-page-requires : tie.Need-returned-page-requires
 returned-page-requires c κs =
     let args = c .before .before .before .before .before .before .before .before .before .before .args in
-    report-may-be-written symbolBuffer (args .soft .now) (args .limit) (args .symbols .now) (args .report .now) _ (c .before .before .before .before .before .before .lengths-asked .ensures) (c .before .before .before .before .before .if1 .left) _ _ (c .before .before .before .ask-page .ensures)
+    report-may-be-written symbolBuffer (args .soft .now) _ (args .symbols .now) (args .report .now) _ (c .before .before .before .before .before .before .lengths-asked .ensures) (c .before .before .before .before .before .if1 .left) _ _ (c .before .before .before .ask-page .ensures)
 
 same-length : tie.Need-same-length
 same-length c = search needs

@@ -26,7 +26,7 @@ decode-page-requires c κs = search needs
 returned-page-requires : tie.Need-returned-page-requires
 returned-page-requires c κs =
     let args = c .before .before .before .before .before .before .before .before .before .before .args in
-    report-may-be-written dataBuffer (args .soft .now) (args .limit) (args .«data» .now) (args .report .now) _ (c .before .before .before .before .before .before .lengths-asked .ensures) (c .before .before .before .before .before .if1 .left) _ _ (c .before .before .before .decode-page .ensures)
+    report-may-be-written dataBuffer (args .soft .now) _ (args .«data» .now) (args .report .now) _ (c .before .before .before .before .before .before .lengths-asked .ensures) (c .before .before .before .before .before .if1 .left) _ _ (c .before .before .before .decode-page .ensures)
 
 same-length : tie.Need-same-length
 same-length c = search needs
