@@ -1,6 +1,6 @@
 /* The aging study: readings of worn flash are simulated and given to the store. `aging pages` writes what came back of whole pages, `aging columns` how often
-   a column of each level was misread or unread, `aging spreads` the same for other thresholds of the reading, `aging ties` how much the written word matters;
-   each as a table for bench/aging_bound.py and bench/aging_tables.py. */
+   a column of each level was misread or unread, `aging spreads` the same for other thresholds of the reading, `aging ties` how much the written word matters,
+   `aging lists` what list of two changes for whole pages; each as a table for bench/aging_bound.py and bench/aging_tables.py. */
 #include "../tests/entries.h"
 #include "inputs.h"
 #include <stdio.h>
@@ -20,11 +20,16 @@ static const int page_rates[] = {10,    100,   300,   1000,  2000,  4000,  6000,
 static const int column_rates[] = {5,    8,    9,    10,   11,   12,   13,   15,   20,   50,   100,   150,   190,   210,
                                    230,  260,  290,  320,  350,  400,  500,  600,  800,  900,  1000,  1100,  1200,  1300,
                                    1500, 2000, 2250, 2500, 2750, 3000, 3500, 4000, 6000, 8000, 10000, 15000, 20000, 30000, 40000};
+static const int list_rates[] = {1000, 5000, 20000, 35000, 40000};
 static const int tie_rates[] = {11, 230, 290, 1100, 2250};
 static const int spread_rates[] = {2, 5, 10, 20, 50, 100, 200, 500, 1000, 2000, 4000, 6000, 8000};
 
 /* distances of the reading thresholds, of those of inputs.h; 0: all seven in the middle, so that every reading is a surest one */
 static const double spreads[] = {0, 0.5, 1.5};
+
+/* Without list of two, and with it: no sum is below the first threshold, every sum below the last. */
+static const struct { int list; int64_t threshold; } choices[] = {{0, 0}, {1, -2000}, {1, 0}, {1, 50}, {1, 2000}};
+enum { CHOICES = sizeof choices / sizeof *choices };
 
 /* Columns read at each level, in millions: many where the promise of a way may end, if this level decides there; else one. */
 static const struct { int from, up_to, millions[LEVELS]; } many[] = {
@@ -72,19 +77,34 @@ static inline uint8_t reading(int bit) {
     return (uint8_t)(bit ? 7 - q : q);
 }
 
-typedef struct { uint64_t back, wrong, answered, steps, erased[LEVELS]; } page_tally;
+typedef struct { uint64_t back, wrong, answered, steps, changed[LEVELS], erased[LEVELS]; } page_tally;
 
-static void read_page(const uint8_t *data, const uint8_t *soft, way w, page_tally *t) {
-    uint8_t back[DATA];
-    paged o = entry_decode_page(soft, SOFT, w.first, back, DATA);
-    if (o.number == 10 && w.second) o = entry_decode_page(soft, SOFT, w.second, back, DATA);
+static void tally_page(const paged o, const uint8_t *back, const uint8_t *data, page_tally *t) {
     if (o.number) return;
     int same = !memcmp(back, data, DATA);
     t->answered++;
     t->back += (uint64_t)same;
     t->wrong += (uint64_t)!same;
     t->steps += o.steps;
-    for (int i = 0; i < LEVELS; i++) t->erased[i] += o.erased[i];
+    for (int i = 0; i < LEVELS; i++) {
+        t->changed[i] += o.changed[i];
+        t->erased[i] += o.erased[i];
+    }
+}
+
+static void read_page(const uint8_t *data, const uint8_t *soft, way w, page_tally *t) {
+    uint8_t back[DATA];
+    paged o = entry_decode_page(soft, SOFT, w.first, back, DATA);
+    if (o.number == 10 && w.second) o = entry_decode_page(soft, SOFT, w.second, back, DATA);
+    tally_page(o, back, data, t);
+}
+
+/* A page of random data, written and read. */
+static void draw_page(uint8_t *data, uint8_t *soft) {
+    uint8_t written[WRITTEN];
+    for (int k = 0; k < DATA; k++) data[k] = (uint8_t)(scrambled() >> 56);
+    entry_encode_page(data, DATA, written, WRITTEN);
+    for (int n = 0; n < SOFT; n++) soft[n] = reading(written[n / BITS * 4 + n % BITS / 8] >> (7 - n % BITS % 8) & 1);
 }
 
 /* Every way reads the same pages. */
@@ -92,10 +112,8 @@ static void pages(int rate) {
     page_tally tallies[WAYS] = {0};
     start(rate, 1, (uint64_t)rate);
     for (int p = 0; p < PAGES; p++) {
-        uint8_t data[DATA], written[WRITTEN], soft[SOFT];
-        for (int k = 0; k < DATA; k++) data[k] = (uint8_t)(scrambled() >> 56);
-        entry_encode_page(data, DATA, written, WRITTEN);
-        for (int n = 0; n < SOFT; n++) soft[n] = reading(written[n / BITS * 4 + n % BITS / 8] >> (7 - n % BITS % 8) & 1);
+        uint8_t data[DATA], soft[SOFT];
+        draw_page(data, soft);
         for (int w = 0; w < WAYS; w++) read_page(data, soft, ways[w], &tallies[w]);
     }
     for (int w = 0; w < WAYS; w++) {
@@ -105,6 +123,28 @@ static void pages(int rate) {
         for (int i = 0; i < LEVELS; i++) printf(",%d", (int)t.erased[i]);
         printf("\n");
     }
+}
+
+/* Pages drawn as above, one decode each, without list of two and with it. */
+static void lists(int rate, uint64_t limit) {
+    page_tally tallies[CHOICES] = {0};
+    start(rate, 1, (uint64_t)rate);
+    for (int p = 0; p < PAGES; p++) {
+        uint8_t data[DATA], soft[SOFT], back[DATA];
+        draw_page(data, soft);
+        for (int c = 0; c < CHOICES; c++) {
+            paged o = choices[c].list ? entry_decode_page_list(soft, SOFT, limit, choices[c].threshold, back, DATA) : entry_decode_page(soft, SOFT, limit, back, DATA);
+            tally_page(o, back, data, &tallies[c]);
+        }
+    }
+    for (int c = 0; c < CHOICES; c++) {
+        page_tally t = tallies[c];
+        printf("%d,%d,%d,%d,%d,%d,%d,%d,%.0f", rate, (int)limit, choices[c].list, (int)choices[c].threshold, PAGES, (int)t.back, PAGES - (int)t.answered, (int)t.wrong,
+               (double)t.steps);
+        for (int i = 0; i < LEVELS; i++) printf(",%d", (int)t.changed[i]);
+        printf("\n");
+    }
+    fflush(stdout);
 }
 
 typedef struct { uint64_t misread, unread, steps; } column_tally;
@@ -225,6 +265,10 @@ int main(int argc, char **argv) {
     if (!strcmp(argv[1], "pages")) {
         printf("rate,limit,then,pages,back,refused,wrong,steps,erased0,erased1,erased2,erased3\n");
         for (size_t r = 0; r < sizeof page_rates / sizeof *page_rates; r++) pages(page_rates[r]);
+    } else if (!strcmp(argv[1], "lists")) {
+        printf("rate,limit,list,threshold,pages,back,refused,wrong,steps,changed0,changed1,changed2,changed3\n");
+        for (size_t r = 0; r < sizeof list_rates / sizeof *list_rates; r++)
+            for (int l = 0; l < LIMITS; l++) lists(list_rates[r], limits[l]);
     } else if (!strcmp(argv[1], "ties")) {
         printf("rate,level,limit,columns,last_word,any_word\n");
         for (size_t r = 0; r < sizeof tie_rates / sizeof *tie_rates; r++)

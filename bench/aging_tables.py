@@ -1,6 +1,6 @@
 #!/usr/bin/env python3
-"""Writes the tables of docs/AGING.md, each between its two marks, from docs/aging-pages.csv, aging-columns.csv, aging-spreads.csv, aging-ties.csv and
-aging-bound.csv, and from aging-columns-before.csv and aging-bound-before.csv, which keep the study before document 02's point 3."""
+"""Writes the tables of docs/AGING.md, each between its two marks, from docs/aging-pages.csv, aging-columns.csv, aging-spreads.csv, aging-ties.csv, aging-lists.csv
+and aging-bound.csv, and from aging-columns-before.csv and aging-bound-before.csv, which keep the study before document 02's point 3."""
 import itertools
 import math
 import os
@@ -193,6 +193,19 @@ def tie_table(ties):
     return lines(["raw errors", "level", *(f"limit {limit:,}" for limit in LIMITS)], rows)
 
 
+def list_table(lists):
+    """Of each rate and limit, without list of two and with it: the average steps and changed columns of an answered page, the refused and the wrong pages."""
+    def cell(r):
+        n, changed = answered(r), sum(r[f"changed{i}"] for i in range(4))
+        return f"{r['steps'] / n:,.0f} / {changed / n:.3g} / {int(r['refused']):,} / {int(r['wrong']):,}" if n else f"– / – / {int(r['refused']):,} / 0"
+
+    choice = lambda r: f"threshold {int(r['threshold']):,}" if r["list"] else "without"
+    heads, rows = {choice(r): None for r in lists}, {}
+    for r in lists:
+        rows.setdefault((r["rate"], int(r["limit"])), {})[choice(r)] = cell(r)
+    return lines(["raw errors", "limit", *heads], [[percent(rate), f"{limit:,}", *(row[head] for head in heads)] for (rate, limit), row in rows.items()])
+
+
 def decibels(rate):
     """E_b/N_0 of a raw bit error rate r = Q(sqrt(2 R E_b/N_0))."""
     return f"{10 * math.log10(inverse_tail(rate / 1e6) ** 2 / (2 * CODE_RATE)):.1f} dB"
@@ -248,11 +261,11 @@ def totals(pages, columns):
 
 
 def main():
-    pages, columns, spreads, ties, bounds = (table(f"aging-{kind}.csv") for kind in ("pages", "columns", "spreads", "ties", "bound"))
+    pages, columns, spreads, ties, lists, bounds = (table(f"aging-{kind}.csv") for kind in ("pages", "columns", "spreads", "ties", "lists", "bound"))
     before, by_case_before, by_case = table("aging-bound-before.csv"), cases(table("aging-columns-before.csv")), cases(columns)
     texts = {"cost": cost_table(before, by_case_before, bounds, by_case), "promise": promise_table(bounds, by_case), "figure": figure(before, bounds),
              "totals": totals(pages, columns), "pages": page_table(pages), "erased": erased_table(pages), "columns": column_table(columns, DEFAULT),
-             "bound": bound_table(bounds), "levels": level_table(bounds, (DEFAULT, 0)), "check": check_table(pages, bounds), "ties": tie_table(ties),
+             "bound": bound_table(bounds), "levels": level_table(bounds, (DEFAULT, 0)), "check": check_table(pages, bounds), "ties": tie_table(ties), "lists": list_table(lists),
              "room": room_table(bounds, by_case), "spreads": spread_table(columns + spreads), "paper": paper_table(before, bounds)}
     page = os.path.join(DOCS, "AGING.md")
     with open(page) as old:

@@ -63,6 +63,12 @@ static inline void supercode_masks(int level, uint32_t *left, uint32_t *right) {
     else for (int t = 0; t < BITS; t++) right[t] = 0;
 }
 
+/* entry [k][v]: the remainder of the six bits v at x^(6k) */
+static inline void rests_of(uint32_t g, uint32_t rests[5][64]) {
+    for (int k = 0; k < 5; k++)
+        for (uint32_t v = 0; v < 64; v++) rests[k][v] = remainder_of(v << 6 * k, g);
+}
+
 /* the level's branch values, entry [b][q] for bit b and soft value q */
 static inline void branch_values(int level, int8_t values[2][8]) {
     static const int8_t of_zero[8] = {2, 1, -1, -5, -11, -20, -35, -60};

@@ -37,6 +37,7 @@ void page_baseline_start(void) {
         }
         supercode_masks(i, tables[i].left, tables[i].right);
         branch_values(i, tables[i].values);
+        rests_of(g, tables[i].rests);
     }
 }
 
@@ -149,7 +150,7 @@ page_outcome page_baseline_commit(const uint8_t *symbols, uint8_t *data) {
     return (page_outcome){.number = 0};
 }
 
-page_outcome page_baseline_decode(baseline_search *search, const uint8_t *soft, int limit, uint8_t *data) {
+page_outcome page_baseline_decode(baseline_search *search, const uint8_t *soft, int limit, int threshold, uint8_t *data) {
     page_outcome o = {.low = INT_MAX};
     uint8_t page[COLUMNS][BITS], symbols[200], *symbol = symbols;
     memcpy(page, soft, sizeof page);
@@ -157,10 +158,10 @@ page_outcome page_baseline_decode(baseline_search *search, const uint8_t *soft, 
         uint8_t row[COLUMNS], was[COLUMNS], marks[COLUMNS];
         uint64_t changed = 0, erased = 0;
         for (int j = 0; j < COLUMNS; j++) {
-            baseline_outcome c = search(page[j], &tables[i], limit);
-            marks[j] = c.count == 0;
-            if (c.count && c.low < o.low) o.low = c.low;
-            o.steps += c.count ? c.count : (uint32_t)limit;
+            baseline_outcome c = search(page[j], &tables[i], limit, threshold);
+            marks[j] = (uint8_t)c.spent;
+            if (!c.spent && c.low < o.low) o.low = c.low;
+            o.steps += c.spent ? (uint32_t)limit : c.count;
             erased |= (uint64_t)marks[j] << j;
             for (int n = 3; n >= i; n--) {       /* re-imaging */
                 was[j] = c.word >> (6 * n + 6) & 63;

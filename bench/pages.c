@@ -1,5 +1,5 @@
-/* Pages: the store's coding, decoding (supercode search) and committing, questions included, and the C baseline's on the same pages, in one process, in turns; the least
-   of the rounds counts. Every page's bytes, steps, changed and erased columns with their marks, low points and refusals are compared. */
+/* Pages: the store's coding, decoding (supercode search, without list of two and with it) and committing, questions included, and the C baseline's on the same pages,
+   in one process, in turns; the least of the rounds counts. Every page's bytes, steps, changed and erased columns with their marks, low points and refusals are compared. */
 #include "../tests/entries.h"
 #include "inputs.h"
 #include "page_baseline.h"
@@ -9,9 +9,12 @@
 enum { DATA = 150, WRITTEN = 252, SYMBOLS = 252, SOFT = 1890, PAGES = 100, ROUNDS = 20, WAYS = 3, NO_WORD = 10 };
 
 /* Limits: the first decode's and that of a second one if the first is refused by 10; 0: no second decode. The default, the default before document 02's
-   point 9, and the way that c/station.h advises. */
-typedef struct { const char *name; int first, then; } limits;
-static const limits uses[] = {{"limit 200, the default", 200, 0}, {"limit 500", 500, 0}, {"limit 200, and 2000 if that is refused by 10", 200, 2000}};
+   point 9, and the way that c/station.h advises; then the first two with list of two, whose threshold comes last. */
+typedef struct { const char *name; int first, then, list, threshold; } limits;
+static const limits uses[] = {
+    {"limit 200, the default", 200, 0, 0, 0}, {"limit 500", 500, 0, 0, 0}, {"limit 200, and 2000 if that is refused by 10", 200, 2000, 0, 0},
+    {"list of two, threshold 0, limit 200", 200, 0, 1, 0}, {"list of two, threshold 0, limit 500", 500, 0, 1, 0},
+};
 enum { USES = sizeof uses / sizeof uses[0] };
 
 static uint8_t data[PAGES][DATA], soft[PAGES][SOFT], written[2][PAGES][WRITTEN], back[WAYS][PAGES][DATA];
@@ -22,12 +25,14 @@ static void least(double *best, double from) {
     if (t < *best) *best = t;
 }
 
-static void decode_once(int way, int p, int limit) {
+static void decode_once(int way, int p, int limit, const limits *use) {
+    static baseline_search *const searches[2][WAYS] = {{NULL, baseline_plain, baseline_packed}, {NULL, baseline_plain_list, baseline_packed_list}};
     if (way) {
-        outcomes[way][p] = page_baseline_decode(way == 1 ? baseline_plain : baseline_packed, soft[p], limit, back[way][p]);
+        outcomes[way][p] = page_baseline_decode(searches[use->list][way], soft[p], limit, use->threshold, back[way][p]);
         return;
     }
-    paged o = entry_decode_page(soft[p], SOFT, (uint64_t)limit, back[0][p], DATA);
+    paged o = use->list ? entry_decode_page_list(soft[p], SOFT, (uint64_t)limit, use->threshold, back[0][p], DATA)
+                        : entry_decode_page(soft[p], SOFT, (uint64_t)limit, back[0][p], DATA);
     outcomes[0][p] = (page_outcome){.number = o.number, .place = o.place, .steps = o.steps, .low = o.low};
     memcpy(outcomes[0][p].changed, o.changed, sizeof o.changed);
     memcpy(outcomes[0][p].erased, o.erased, sizeof o.erased);
@@ -37,9 +42,9 @@ static void decode_once(int way, int p, int limit) {
 
 /* whether the page was decoded twice */
 static int decode(int way, int p, const limits *use) {
-    decode_once(way, p, use->first);
+    decode_once(way, p, use->first, use);
     int again = use->then && outcomes[way][p].number == NO_WORD;
-    if (again) decode_once(way, p, use->then);
+    if (again) decode_once(way, p, use->then, use);
     return again;
 }
 

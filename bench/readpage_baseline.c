@@ -12,7 +12,7 @@ int main(void) {
     page_outcome page = {0};
     if (!refused) {
         page_baseline_start();
-        page = page_baseline_decode(baseline_plain, soft, LIMIT, data);
+        page = page_baseline_decode(baseline_plain, soft, LIMIT, 0, data);
         refused = page.number + 256 * page.place;
     }
     if (refused) return printf("page refused %u place %u\n", (unsigned)(refused % 256), (unsigned)(refused / 256)) < 0;

@@ -1,14 +1,15 @@
 /* station.h: the station's C interface to the soft page store.
 
-   A page holds 150 bytes of data in 63 columns of 30 bits. Seven calls serve it:
+   A page holds 150 bytes of data in 63 columns of 30 bits. Eight calls serve it:
 
-       station_encode_page         data              -> written page
-       station_read_dump           chip dump         -> soft page
-       station_decode_page         soft page         -> data and a report
-       station_decode_page_limit   soft page, limit  -> data and a report
-       station_ask_page            soft page         -> corrected symbols and a report
-       station_ask_page_limit      soft page, limit  -> corrected symbols and a report
-       station_commit_page         corrected symbols -> data
+       station_encode_page         data                        -> written page
+       station_read_dump           chip dump                   -> soft page
+       station_decode_page         soft page                   -> data and a report
+       station_decode_page_limit   soft page, limit            -> data and a report
+       station_decode_page_list    soft page, limit, threshold -> data and a report
+       station_ask_page            soft page                   -> corrected symbols and a report
+       station_ask_page_limit      soft page, limit            -> corrected symbols and a report
+       station_commit_page         corrected symbols           -> data
 
    BUFFERS. Each is passed as a pointer and a length in bytes and stays the caller's; nothing is kept after the call. The pointer is valid for
    that length; with length 0 it may be NULL. An output may not overlap another buffer of the call.
@@ -19,6 +20,7 @@
        STATION_INPUT_LENGTH    1   has the input the stated length?
        STATION_OUTPUT_LENGTH   2   has every output the stated length?
        STATION_LIMIT           4   is the limit 1..STATION_LARGEST_LIMIT?
+       STATION_THRESHOLD      11   is the threshold -STATION_LARGEST_THRESHOLD..STATION_LARGEST_THRESHOLD?
        STATION_FIXED_BYTES     7   are a dump block's fixed and zero bytes right?    place: the block, 0..3
        STATION_CHECK           8   is its check right? (7 and 8 go block by block)   place: the block, 0..3
        STATION_VALUE           5   is each soft value 0..7?                          place: the first bad one in the soft page, 0..1889
@@ -31,6 +33,12 @@
    LIMIT. The most steps that the search of a column takes at a level; a column that has no word by then counts as erased. The calls that name
    no limit take STATION_DEFAULT_LIMIT, which was 500 and is 200 now: worn pages take less time, and more of them are refused by 10.
    Whoever counted on 500, as the dump service did, must name it: station_decode_page_limit(soft, soft_len, 500, ...).
+
+   LIST OF TWO. A choice that station_decode_page_list alone makes. A column that reads as a word of its level (0..3 as bit 0, 4..7 as bit 1) is taken as it
+   reads, in 0 steps. Else it is searched, and where the word found has a sum below the threshold, the search goes on to a second word; of the two the
+   one with the larger sum is taken, the first on a tie. The limit and the steps cover both words; where the limit ends the second search, the first
+   word stands and the steps are the limit. Sums are -1,800..60 at level 0 and -1,620..240 at level 3: with the threshold -STATION_LARGEST_THRESHOLD no
+   second word is sought, with STATION_LARGEST_THRESHOLD always.
 
    ASK, THEN COMMIT. Decoding writes over its data buffer as soon as there is an answer. A station that has to know the damage before the old record
    is overwritten asks first: station_ask_page touches no data. It returns what station_decode_page would return, with the same report, and fills in
@@ -60,7 +68,7 @@
 extern "C" {
 #endif
 
-/* Lengths in bytes, the numbers of levels and columns, and limits. */
+/* Lengths in bytes, the numbers of levels and columns, limits, and the largest threshold: the smallest is its negative. */
 enum {
     STATION_DATA_LEN = 150,
     STATION_PAGE_LEN = 252,
@@ -71,7 +79,8 @@ enum {
     STATION_LEVELS = 4,
     STATION_COLUMNS = 63,
     STATION_DEFAULT_LIMIT = 200,
-    STATION_LARGEST_LIMIT = 2000
+    STATION_LARGEST_LIMIT = 2000,
+    STATION_LARGEST_THRESHOLD = 2000
 };
 
 /* Numbers of refusals. */
@@ -84,6 +93,7 @@ enum {
     STATION_FIXED_BYTES = 7,
     STATION_CHECK = 8,
     STATION_NO_WORD = 10,
+    STATION_THRESHOLD = 11,
     STATION_ROW = 14
 };
 
@@ -102,6 +112,9 @@ uint64_t station_decode_page_limit(const uint8_t *soft, size_t soft_len, uint64_
    take ten times as many steps as the first. Without it the promise of fewer than one bad page in 10^16 ends at a raw bit error rate of
    0.0013 %, with it at 0.032 %, and with STATION_LARGEST_LIMIT from the start at 0.225 %, on the channel of docs/AGING.md. */
 uint64_t station_decode_page(const uint8_t *soft, size_t soft_len, uint8_t *data, size_t data_len, uint8_t *report, size_t report_len);
+
+/* The same with list of two, and with the limit and the threshold named. Refused by 1, 2, 4, 11, 5 and 10. */
+uint64_t station_decode_page_list(const uint8_t *soft, size_t soft_len, uint64_t limit, int64_t threshold, uint8_t *data, size_t data_len, uint8_t *report, size_t report_len);
 
 /* Asks what station_decode_page_limit would give for the soft page: returns what it would, with the report that it would write, and in place of the
    data gives STATION_SYMBOLS_LEN corrected symbols for station_commit_page. Refused by 1, 2, 4, 5 and 10. */

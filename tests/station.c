@@ -1,5 +1,5 @@
-/* Calls the station's entries as a C program does: every length, NULL with length 0, limits, bad values, late refusals, altered rows, pages whose changed and erased columns are known, and the stored pages
-   and dumps of a vector folder (default tests/vectors).
+/* Calls the station's entries as a C program does: every length, NULL with length 0, limits, thresholds, bad values, late refusals, altered rows, pages whose changed and erased columns are known, and
+   the stored pages and dumps of a vector folder (default tests/vectors).
    A refused call may change no byte of any buffer or of the bytes around it. Prints `N checked, M differ`; fails if one differs. */
 #include "../c/station.h"
 #include "listing.h"
@@ -113,6 +113,17 @@ static void decode(const char *what, const uint8_t *soft, size_t soft_len, uint6
     }
 }
 
+/* Decodes with list of two. */
+static void decode_list(const char *what, const uint8_t *soft, size_t soft_len, uint64_t limit, int64_t threshold, size_t data_len, size_t report_len, unsigned number, uint64_t place,
+                        const answer *told) {
+    lend(&in, soft, STATION_SOFT_LEN, soft_len);
+    lend(&out, NULL, 0, data_len);
+    lend(&report, NULL, 0, report_len);
+    uint64_t r = station_decode_page_list(bytes(&in), in.len, limit, threshold, bytes(&out), out.len, bytes(&report), report.len);
+    int left = told ? holds(&out, told->data, out.len) && reported(&report, told) : kept(&out) && kept(&report);
+    check(is(r, number, place) && kept(&in) && left, what, r);
+}
+
 /* A wrong length: 0, one less, one more, far more. */
 enum { WRONG = 4 };
 static size_t wrong(size_t len, int k) {
@@ -120,7 +131,7 @@ static size_t wrong(size_t len, int k) {
     return lengths[k];
 }
 
-/* The input's length is asked before the outputs', and both before the limit and the values, which are bad here. */
+/* The input's length is asked before the outputs', and both before the limit, the threshold and the values, which are bad here. */
 static void lengths(void) {
     static uint8_t bad[STATION_DUMP_LEN];
     const uint64_t limits[] = {STATION_DEFAULT_LIMIT, 0};
@@ -138,6 +149,10 @@ static void lengths(void) {
             decode("decode, data length", bad, STATION_SOFT_LEN, limits[l], data, STATION_REPORT_LEN, STATION_OUTPUT_LENGTH, 0, NULL);
             decode("decode, report length", bad, STATION_SOFT_LEN, limits[l], STATION_DATA_LEN, told, STATION_OUTPUT_LENGTH, 0, NULL);
             decode("decode, all lengths", bad, soft, limits[l], data, told, STATION_INPUT_LENGTH, 0, NULL);
+            decode_list("list, soft length", bad, soft, limits[l], INT64_MAX, STATION_DATA_LEN, STATION_REPORT_LEN, STATION_INPUT_LENGTH, 0, NULL);
+            decode_list("list, data length", bad, STATION_SOFT_LEN, limits[l], INT64_MAX, data, STATION_REPORT_LEN, STATION_OUTPUT_LENGTH, 0, NULL);
+            decode_list("list, report length", bad, STATION_SOFT_LEN, limits[l], INT64_MAX, STATION_DATA_LEN, told, STATION_OUTPUT_LENGTH, 0, NULL);
+            decode_list("list, all lengths", bad, soft, limits[l], INT64_MAX, data, told, STATION_INPUT_LENGTH, 0, NULL);
             ask("ask, symbols length", bad, STATION_SOFT_LEN, limits[l], rows, STATION_REPORT_LEN, STATION_OUTPUT_LENGTH, 0, NULL);
             ask("ask, all lengths", bad, soft, limits[l], rows, told, STATION_INPUT_LENGTH, 0, NULL);
         }
@@ -157,6 +172,7 @@ static void soft_values(void) {
         soft[STATION_SOFT_LEN - 1] = 255;
         soft[at[i]] = 8;
         decode("decode, soft value", soft, sizeof soft, STATION_DEFAULT_LIMIT, STATION_DATA_LEN, STATION_REPORT_LEN, STATION_VALUE, at[i], NULL);
+        decode_list("list, soft value", soft, sizeof soft, STATION_DEFAULT_LIMIT, 0, STATION_DATA_LEN, STATION_REPORT_LEN, STATION_VALUE, at[i], NULL);
     }
 }
 
@@ -195,6 +211,31 @@ static void limits(void) {
         int asked = number == STATION_LIMIT;
         decode("decode, limit and soft value", soft, sizeof soft, cases[i].limit, STATION_DATA_LEN, STATION_REPORT_LEN, asked ? STATION_LIMIT : STATION_VALUE, asked ? 0 : 977, NULL);
     }
+}
+
+/* With list of two the page of zeros takes no step, whatever the limit is, and a page with a one in each column is refused by 10 where the limit is small. A threshold outside
+   -STATION_LARGEST_THRESHOLD..STATION_LARGEST_THRESHOLD is asked after the limit and before the values. */
+static void thresholds(void) {
+    static const struct { int64_t threshold; unsigned number; } cases[] = {
+        {-STATION_LARGEST_THRESHOLD, STATION_OK}, {-1, STATION_OK}, {0, STATION_OK}, {STATION_LARGEST_THRESHOLD, STATION_OK}, {-STATION_LARGEST_THRESHOLD - 1, STATION_THRESHOLD},
+        {STATION_LARGEST_THRESHOLD + 1, STATION_THRESHOLD}, {-65536, STATION_THRESHOLD}, {65536, STATION_THRESHOLD}, {-((int64_t)1 << 32), STATION_THRESHOLD}, {(int64_t)1 << 32, STATION_THRESHOLD},
+        {INT64_MIN, STATION_THRESHOLD}, {INT64_MAX, STATION_THRESHOLD},
+    };
+    static const uint64_t limits[] = {0, 1, BITS, STATION_DEFAULT_LIMIT, STATION_LARGEST_LIMIT, STATION_LARGEST_LIMIT + 1, ((uint64_t)1 << 32) + 1, UINT64_MAX};
+    const answer zeros = {.marked = 1, .low = 2};
+    for (size_t i = 0; i < sizeof cases / sizeof cases[0]; i++)
+        for (size_t l = 0; l < sizeof limits / sizeof limits[0]; l++) {
+            uint8_t soft[STATION_SOFT_LEN] = {0};
+            uint64_t limit = limits[l];
+            int64_t threshold = cases[i].threshold;
+            unsigned number = limit < 1 || limit > STATION_LARGEST_LIMIT ? STATION_LIMIT : cases[i].number;
+            int taken = number == STATION_OK;
+            decode_list("list, threshold", soft, sizeof soft, limit, threshold, STATION_DATA_LEN, STATION_REPORT_LEN, number, 0, taken ? &zeros : NULL);
+            for (int j = 0; j < STATION_COLUMNS; j++) soft[j * BITS] = 7;
+            if (!taken || limit < BITS) decode_list("list, no words", soft, sizeof soft, limit, threshold, STATION_DATA_LEN, STATION_REPORT_LEN, taken ? STATION_NO_WORD : number, 0, NULL);
+            soft[977] = 8;
+            decode_list("list, threshold and soft value", soft, sizeof soft, limit, threshold, STATION_DATA_LEN, STATION_REPORT_LEN, taken ? STATION_VALUE : number, taken ? 977 : 0, NULL);
+        }
 }
 
 /* The check of a block, high byte first: the sum of (k + 1) * byte k. */
@@ -255,9 +296,11 @@ static void bytes_of(const char *text, uint8_t *to, size_t n) {
     }
 }
 
-/* An answered page: its data, its report and the header's readers. Each mark has as many ones as its total, none at bit 63, and no column is both changed and erased. */
-static void answered(const char *name, const uint8_t *soft, uint64_t limit, const answer *told) {
-    decode(name, soft, STATION_SOFT_LEN, limit, STATION_DATA_LEN, STATION_REPORT_LEN, STATION_OK, 0, told);
+/* An answered page, with list of two if there is a threshold: its data, its report and the header's readers. Each mark has as many ones as its total, none at bit 63, and no column is both changed
+   and erased. */
+static void answered(const char *name, const uint8_t *soft, uint64_t limit, const int64_t *threshold, const answer *told) {
+    if (threshold) decode_list(name, soft, STATION_SOFT_LEN, limit, *threshold, STATION_DATA_LEN, STATION_REPORT_LEN, STATION_OK, 0, told);
+    else decode(name, soft, STATION_SOFT_LEN, limit, STATION_DATA_LEN, STATION_REPORT_LEN, STATION_OK, 0, told);
     const uint8_t *r = bytes(&report);
     int same = station_steps(r) == told->steps && (!told->marked || station_low(r) == told->low);
     for (unsigned i = 0; i < STATION_LEVELS; i++) {
@@ -295,11 +338,21 @@ static void known_columns(uint64_t limit) {
     memset(soft, 3, BITS);
     add_word(soft + 33 * BITS, LEVEL_1_WORD);
     add_word(soft + 62 * BITS, LEVEL_3_WORD);
-    answered("known columns", soft, limit, &told);
+    answered("known columns", soft, limit, NULL, &told);
+    /* With list of two, and column 0 as it was written: every column but 33 reads as a word at every level, and takes no step. */
+    for (int k = 0; k < BITS; k++) soft[k] = page[k / 8] >> (7 - k % 8) & 1 ? 7 : 0;
+    for (int i = 0; i < STATION_LEVELS; i++) {
+        told.totals[2 * i + 1] = i < 2 ? 0 : 1;
+        told.marks[2 * i + 1] = i < 2 ? 0 : (uint64_t)1 << 33;
+    }
+    told.steps = 2 * limit;
+    for (int64_t threshold = -STATION_LARGEST_THRESHOLD; threshold <= STATION_LARGEST_THRESHOLD; threshold += STATION_LARGEST_THRESHOLD) answered("known columns, list", soft, limit, &threshold, &told);
 }
 
 /* The page of zeros, read surely but for soft 7 at position 0 of column 0. Its search takes 347 steps at level 0 and 1020, 717 and 1177 at the others: with 500 the column keeps its answer at
-   level 0, the zero word, whose first bit has -60; with the default it is spent there too, and the other columns' first bits, 2 each, are the lowest. */
+   level 0, the zero word, whose first bit has -60; with the default it is spent there too, and the other columns' first bits, 2 each, are the lowest.
+   With list of two the other columns take no step. The zero word's sum is -2 at level 0 and positive at the others: with the threshold -2 no second word is sought, and with limit 347 no step
+   is left for one. */
 static void seven_at_position_0(uint64_t limit) {
     static const uint64_t taken[STATION_LEVELS] = {347, 1020, 717, 1177};
     uint8_t soft[STATION_SOFT_LEN] = {7};
@@ -309,11 +362,14 @@ static void seven_at_position_0(uint64_t limit) {
         told.steps += spent ? limit : taken[i];
         told.totals[2 * i + 1] = told.marks[2 * i + 1] = (uint64_t)spent;
     }
-    answered("soft 7 at position 0", soft, limit, &told);
+    answered("soft 7 at position 0", soft, limit, NULL, &told);
+    const int64_t thresholds[] = {-STATION_LARGEST_THRESHOLD, -2, -1, STATION_LARGEST_THRESHOLD};
+    told.steps -= STATION_LEVELS * 62 * BITS;
+    for (int k = 0; k < (limit > taken[0] ? 2 : 4); k++) answered("soft 7 at position 0, list", soft, limit, &thresholds[k], &told);
 }
 
 /* The rest of an expect line after `ok`. In reports.txt the steps are followed by the low point, and each total by its mark. */
-static void expected(const char *name, char *at, int marked, const uint8_t *soft, uint64_t limit, const uint8_t *data) {
+static void expected(const char *name, char *at, int marked, const uint8_t *soft, uint64_t limit, const int64_t *threshold, const uint8_t *data) {
     answer told = {.marked = marked, .steps = strtoul(at, &at, 10)};
     if (marked && !strncmp(at, " low ", 5)) told.low = (int)strtol(at + 5, &at, 10);
     for (int k = 0; k < 2 * STATION_LEVELS; k++) {
@@ -323,17 +379,17 @@ static void expected(const char *name, char *at, int marked, const uint8_t *soft
     if (!strcmp(at, " same")) memcpy(told.data, data, STATION_DATA_LEN);
     else if (strlen(at) == 1 + 2 * STATION_DATA_LEN) bytes_of(at + 1, told.data, STATION_DATA_LEN);
     else check(0, "an expect line", 0);
-    answered(name, soft, limit, &told);
+    answered(name, soft, limit, threshold, &told);
 }
 
-/* pages.txt or reports.txt, whose forms are in tests/vectors/README.md: the lines of the supercode decoder. Gives how many pages are refused after level 0, when their first rows are already
-   decoded. */
+/* pages.txt or reports.txt, whose forms are in tests/vectors/README.md: the lines of the supercode decoder, in reports.txt also those with list of two. Gives how many pages are refused after level 0,
+   when their first rows are already decoded. */
 static unsigned long pages(const char *folder, const char *text, int marked) {
     static char path[LINE], line[LINE], name[LINE];
     static uint8_t data[STATION_DATA_LEN], page[STATION_PAGE_LEN], soft[STATION_SOFT_LEN];
-    const char *mode = "expect super ", *before = marked ? " - " : " ";
+    const char *mode = "expect super ", *list = "expect super2 ";
     unsigned number;
-    unsigned long place, late = 0, lines = 0;
+    unsigned long place, late = 0, lines[2] = {0, 0};
     snprintf(path, sizeof path, "%s/%s", folder, text);
     FILE *file = fopen(path, "r");
     while (file && fgets(line, sizeof line, file)) {
@@ -345,19 +401,23 @@ static unsigned long pages(const char *folder, const char *text, int marked) {
             encode(name, data, sizeof data, sizeof page, STATION_OK, page);
         }
         if (!strncmp(line, "soft ", 5)) for (int i = 0; i < STATION_SOFT_LEN && line[5 + i]; i++) soft[i] = (uint8_t)(line[5 + i] - '0');
-        if (strncmp(line, mode, strlen(mode))) continue;
-        char *rest = line + strlen(mode);
+        const int listed = marked && !strncmp(line, list, strlen(list));
+        if (!listed && strncmp(line, mode, strlen(mode))) continue;
+        char *rest = line + strlen(listed ? list : mode);
         uint64_t limit = strtoull(rest, &rest, 10);
-        lines++;
+        int64_t threshold = listed ? strtoll(rest, &rest, 10) : 0;
+        const char *before = marked && !listed ? " - " : " ";
+        lines[listed]++;
         if (!strncmp(rest, before, strlen(before))) rest += strlen(before);
-        if (!strncmp(rest, "ok ", 3)) expected(name, rest + 3, marked, soft, limit, data);
+        if (!strncmp(rest, "ok ", 3)) expected(name, rest + 3, marked, soft, limit, listed ? &threshold : NULL, data);
         else if (sscanf(rest, "refused %u %lu", &number, &place) == 2) {
-            decode(name, soft, sizeof soft, limit, STATION_DATA_LEN, STATION_REPORT_LEN, number, place, NULL);
+            if (listed) decode_list(name, soft, sizeof soft, limit, threshold, STATION_DATA_LEN, STATION_REPORT_LEN, number, place, NULL);
+            else decode(name, soft, sizeof soft, limit, STATION_DATA_LEN, STATION_REPORT_LEN, number, place, NULL);
             late += number == STATION_NO_WORD && place > 0;
         } else check(0, "an expect line", 0);
     }
     if (file) fclose(file);
-    check(lines > 0, path, 0);
+    check(lines[0] > 0 && (!marked || lines[1] > 0), path, 0);
     return late;
 }
 
@@ -388,10 +448,13 @@ int main(int argc, char **argv) {
     soft_values();
     rows();
     limits();
+    thresholds();
     dumps();
     known_columns(STATION_DEFAULT_LIMIT);
     known_columns(500);
     seven_at_position_0(STATION_DEFAULT_LIMIT);
+    seven_at_position_0(346);
+    seven_at_position_0(347);
     seven_at_position_0(500);
     seven_at_position_0(STATION_LARGEST_LIMIT);
     check(pages(folder, "pages.txt", 0) > 0, "a page refused after level 0", 0);

@@ -70,21 +70,33 @@ static verdict code_line(const record *r) {
     return DIFFERS;
 }
 
-/* The low point of a word on a soft column, straight from its definition: the lowest sum of a prefix, with the branch values of the level. */
-static int low_point(const uint8_t *soft, uint64_t level, uint64_t word) {
+/* The low point and the sum of a word on a soft column, straight from their definitions, with the branch values of the level: the lowest sum of a prefix, and that of all bits. */
+typedef struct { int low, sum; } walk;
+
+static walk walk_of(const uint8_t *soft, uint64_t level, uint64_t word) {
     static const int agree[] = {2, 1, -1, -5}, disagree[] = {-60, -35, -20, -11};
-    int sum = 0, low = INT_MAX;
+    walk w = {INT_MAX, 0};
     for (int k = 0; k < BITS; k++) {
         int reads = soft[k] > 3, doubt = reads ? 7 - soft[k] : soft[k];
-        sum += ((word >> (BITS - 1 - k) & 1) == (uint64_t)reads ? agree : disagree)[doubt] + 2 * (int)level;
-        if (sum < low) low = sum;
+        w.sum += ((word >> (BITS - 1 - k) & 1) == (uint64_t)reads ? agree : disagree)[doubt] + 2 * (int)level;
+        if (w.sum < w.low) w.low = w.sum;
     }
-    return low;
+    return w;
 }
 
-static found searched(const char *mode, const uint8_t *soft, size_t n, uint64_t level, uint64_t limit) {
-    return mode[0] == 'w' ? entry_search_whole(level, soft, n, limit) : entry_search_supercode(level, soft, n, limit);
+/* How columns are searched: over the whole code or the supercodes, and with list of two, which has a threshold, or without. */
+typedef struct { int whole, list; int64_t threshold; } way;
+
+static way without_list(const char *mode) { return (way){mode[0] == 'w', 0, 0}; }
+
+static way with_list(const char *mode, int64_t threshold) { return (way){mode[0] == 'w', 1, threshold}; }
+
+static found searched(way w, const uint8_t *soft, size_t n, uint64_t level, uint64_t limit) {
+    if (w.list) return w.whole ? entry_search_whole_list(level, soft, n, limit, w.threshold) : entry_search_supercode_list(level, soft, n, limit, w.threshold);
+    return w.whole ? entry_search_whole(level, soft, n, limit) : entry_search_supercode(level, soft, n, limit);
 }
+
+static int same_found(found a, found b) { return a.number == b.number && a.place == b.place && a.word == b.word && a.count == b.count && a.low == b.low; }
 
 /* A word's line has so many fields, the last its count or, of seven, its low point, which is reckoned here as well; a refusal tells nothing more. */
 static verdict search_line(const record *r, int fields) {
@@ -92,10 +104,10 @@ static verdict search_line(const record *r, int fields) {
     size_t n = strlen(r->field[0]);
     if (r->count != 5 && r->count != fields) return DIFFERS;
     for (size_t i = 0; i < n; i++) soft[i] = (uint8_t)(r->field[0][i] - '0');
-    found f = searched(r->field[3], soft, n, decimal(r->field[1]), decimal(r->field[2]));
+    found f = searched(without_list(r->field[3]), soft, n, decimal(r->field[1]), decimal(r->field[2]));
     if (r->count == 5) return f.number == decimal(r->field[4]) && f.place == 0 && !f.word && !f.count && !f.low ? SAME : DIFFERS;
     if (f.number || n != BITS) return DIFFERS;
-    int low = low_point(soft, decimal(r->field[1]), f.word);
+    int low = walk_of(soft, decimal(r->field[1]), f.word).low;
     if (fields == 7 && low != atoi(r->field[6])) return DIFFERS;
     return f.word == decimal(r->field[4]) && f.count == decimal(r->field[5]) && f.low == low ? SAME : DIFFERS;
 }
@@ -105,6 +117,53 @@ static verdict column_line(const record *r) { return search_line(r, 6); }
 
 /* search.txt and lows.txt */
 static verdict low_line(const record *r) { return search_line(r, 7); }
+
+static uint64_t hard_reading(const uint8_t *soft) {
+    uint64_t word = 0;
+    for (int k = 0; k < BITS; k++) word = word << 1 | soft[k] >> 2;
+    return word;
+}
+
+/* What a column tells for each threshold: its hard reading if that is a word, and without steps; what the search without list tells where that is 9, or its sum is no less than the threshold; and for
+   every threshold above the sum the same, after more steps, or with the first word and the limit for a count. */
+static int thresholds_agree(const char *mode, const uint8_t *soft, uint64_t level, uint64_t limit) {
+    const found f = searched(without_list(mode), soft, BITS, level, limit), most = searched(with_list(mode, 2000), soft, BITS, level, limit);
+    if (!entry_reimage(level, hard_reading(soft)).number) {
+        const found hard = {.word = hard_reading(soft), .low = (int16_t)walk_of(soft, level, hard_reading(soft)).low};
+        return same_found(most, hard) && same_found(searched(with_list(mode, -2000), soft, BITS, level, 1), hard);
+    }
+    if (f.number) return same_found(most, f) && same_found(searched(with_list(mode, -2000), soft, BITS, level, limit), f);
+    const int sum = walk_of(soft, level, f.word).sum, best = walk_of(soft, level, most.word).sum, ended = most.count == limit && most.word == f.word;
+    return !most.number && (most.count > f.count || ended) && most.count <= limit && (most.word == f.word || best > sum) && same_found(searched(with_list(mode, -2000), soft, BITS, level, limit), f)
+           && same_found(searched(with_list(mode, sum), soft, BITS, level, limit), f) && same_found(searched(with_list(mode, sum + 1), soft, BITS, level, limit), most);
+}
+
+/* What a line of list2.txt says of the way to its answer, beside what the search without list tells. */
+static int way_told(const char *how, const uint8_t *soft, uint64_t level, uint64_t limit, int64_t threshold, found answer, found first) {
+    if (!strcmp(how, "hard")) return answer.count == 0 && answer.word == hard_reading(soft);
+    const int sum = walk_of(soft, level, first.word).sum, answers_sum = walk_of(soft, level, answer.word).sum, more = answer.count > first.count && answer.count <= limit;
+    if (first.number || !entry_reimage(level, hard_reading(soft)).number) return 0;
+    if (!strcmp(how, "first")) return sum >= threshold && same_found(answer, first);
+    if (sum >= threshold) return 0;
+    if (!strcmp(how, "kept")) return more && answer.word == first.word;
+    if (!strcmp(how, "second")) return more && answers_sum > sum;
+    return !strcmp(how, "ended") && answer.count == limit && answer.word == first.word;
+}
+
+/* list2.txt */
+static verdict list_line(const record *r) {
+    uint8_t soft[BITS];
+    if ((r->count != 6 && r->count != 9) || strlen(r->field[0]) != BITS) return DIFFERS;
+    for (size_t i = 0; i < BITS; i++) soft[i] = (uint8_t)(r->field[0][i] - '0');
+    const uint64_t level = decimal(r->field[1]), limit = decimal(r->field[2]);
+    const char *mode = r->field[3];
+    const int64_t threshold = strtoll(r->field[4], NULL, 10);
+    const found answer = searched(with_list(mode, threshold), soft, BITS, level, limit), first = searched(without_list(mode), soft, BITS, level, limit), spent = {.number = 9};
+    if (!thresholds_agree(mode, soft, level, limit)) return DIFFERS;
+    if (r->count == 6) return decimal(r->field[5]) == 9 && same_found(answer, spent) && same_found(first, spent) ? SAME : DIFFERS;
+    const found told = {.word = decimal(r->field[5]), .count = decimal(r->field[6]), .low = (int16_t)atoi(r->field[7])};
+    return same_found(answer, told) && told.low == walk_of(soft, level, told.word).low && way_told(r->field[8], soft, level, limit, threshold, answer, first) ? SAME : DIFFERS;
+}
 
 /* What a row call wrote is the word of the line, or nothing. */
 static verdict wrote(filled f, const uint8_t *out, const char *expected) {
@@ -133,12 +192,14 @@ static verdict row_refuses(filled f, const uint8_t *out, const record *r) {
     return refuses(f.number, f.place, r) == SAME && (f.number == 0 || untouched(out, ROW)) ? SAME : DIFFERS;
 }
 
-static paged decoded(const char *mode, const uint8_t *soft, size_t n, uint64_t limit, uint8_t *data, size_t room) {
-    return mode[0] == 'w' ? entry_decode_page_whole(soft, n, limit, data, room) : entry_decode_page(soft, n, limit, data, room);
+static paged decoded(way w, const uint8_t *soft, size_t n, uint64_t limit, uint8_t *data, size_t room) {
+    if (w.list) return w.whole ? entry_decode_page_whole_list(soft, n, limit, w.threshold, data, room) : entry_decode_page_list(soft, n, limit, w.threshold, data, room);
+    return w.whole ? entry_decode_page_whole(soft, n, limit, data, room) : entry_decode_page(soft, n, limit, data, room);
 }
 
-static paged asked(const char *mode, const uint8_t *soft, size_t n, uint64_t limit, uint8_t *symbols, size_t room) {
-    return mode[0] == 'w' ? entry_ask_page_whole(soft, n, limit, symbols, room) : entry_ask_page(soft, n, limit, symbols, room);
+static paged asked(way w, const uint8_t *soft, size_t n, uint64_t limit, uint8_t *symbols, size_t room) {
+    if (w.list) return w.whole ? entry_ask_page_whole_list(soft, n, limit, w.threshold, symbols, room) : entry_ask_page_list(soft, n, limit, w.threshold, symbols, room);
+    return w.whole ? entry_ask_page_whole(soft, n, limit, symbols, room) : entry_ask_page(soft, n, limit, symbols, room);
 }
 
 /* pages.txt: a record is its lines page, data, written, soft, then expect lines. What the expect lines need is kept from the lines before. */
@@ -187,6 +248,28 @@ static verdict both_decoders(const uint8_t *soft) {
     return v;
 }
 
+/* Pages and thresholds with list of two where no supercode search, first or second, was ended by limit 1000. */
+static unsigned long lists_compared;
+
+/* Point 1 of document 02: with list of two both decoders agree where no supercode search at levels 1 to 3 is ended by the limit. None is, where a larger limit gives the same data in as many steps:
+   the columns are then the same at every level, and a search that the smaller limit ends takes more steps with the larger one. */
+static verdict both_list_decoders(const uint8_t *soft) {
+    static const int64_t thresholds[] = {-2000, -60, 0, 60, 2000};
+    verdict v = SAME;
+    for (size_t i = 0; i < sizeof thresholds / sizeof thresholds[0]; i++) {
+        uint8_t by_supercode[DATA] = {0}, by_whole[DATA] = {0}, by_more[DATA] = {0};
+        const paged s = decoded(with_list("s", thresholds[i]), soft, SOFT, 1000, by_supercode, DATA), more = decoded(with_list("s", thresholds[i]), soft, SOFT, 2000, by_more, DATA);
+        paged w = decoded(with_list("w", thresholds[i]), soft, SOFT, 1000, by_whole, DATA);
+        if (!report_right(&s) || !report_right(&w) || !report_right(&more)) v = DIFFERS;
+        if (s.number || more.number || s.steps != more.steps || memcmp(by_supercode, by_more, DATA)) continue;
+        lists_compared++;
+        const uint64_t steps = w.steps;
+        w.steps = s.steps;
+        if (!same_report(&s, &more) || !same_report(&s, &w) || steps > s.steps || memcmp(by_supercode, by_whole, DATA)) v = DIFFERS;
+    }
+    return v;
+}
+
 /* Row i of symbols, coded anew from its data. */
 static int row_is_word(const uint8_t *symbols, uint64_t i) {
     static const size_t data[] = {33, 51, 57, 59};
@@ -205,10 +288,10 @@ static int commit_refuses(const uint8_t *symbols, size_t n, size_t room, uint64_
 
 /* Asking tells what decoding told, p with the data. An answer's symbols are four words, and committing them writes these data; with a symbol altered in a row
    alone, or in this and all higher rows, that row is refused. A refusal changes no symbol. */
-static int asks_alike(const char *mode, uint64_t limit, const paged *p, const uint8_t *data) {
+static int asks_alike(way w, uint64_t limit, const paged *p, const uint8_t *data) {
     uint8_t symbols[SYMBOLS + 1], out[DATA];
     memset(symbols, UNTOUCHED, sizeof symbols);
-    paged a = asked(mode, page_soft, SOFT, limit, symbols, SYMBOLS);
+    paged a = asked(w, page_soft, SOFT, limit, symbols, SYMBOLS);
     if (!same_report(&a, p) || symbols[SYMBOLS] != UNTOUCHED) return 0;
     if (a.number) return untouched(symbols, sizeof symbols);
     filled f = entry_commit_page(symbols, SYMBOLS, out, DATA);
@@ -245,10 +328,10 @@ static verdict page_line(const record *r) {
     }
     if (!strcmp(r->field[0], "soft") && r->count == 2 && strlen(r->field[1]) == SOFT) {
         for (size_t i = 0; i < SOFT; i++) page_soft[i] = (uint8_t)(r->field[1][i] - '0');
-        return both_decoders(page_soft);
+        return both_decoders(page_soft) == SAME ? both_list_decoders(page_soft) : DIFFERS;
     }
     if (strcmp(r->field[0], "expect") || r->count < 6) return DIFFERS;
-    paged p = decoded(r->field[1], page_soft, SOFT, decimal(r->field[2]), out, DATA);
+    paged p = decoded(without_list(r->field[1]), page_soft, SOFT, decimal(r->field[2]), out, DATA);
     if (!report_right(&p)) return DIFFERS;
     if (!strcmp(r->field[3], "refused") && r->count == 6)
         return p.number == decimal(r->field[4]) && p.place == decimal(r->field[5]) && untouched(out, sizeof out) ? SAME : DIFFERS;
@@ -262,15 +345,18 @@ static int level_marks(const paged *p, char *const *field) {
     return 1;
 }
 
-/* reports.txt: the other lines are as in pages.txt; whole2 and super2 are calls to come. */
+/* reports.txt: the other lines are as in pages.txt. */
 static verdict report_line(const record *r) {
     uint8_t out[WRITTEN];
     if (strcmp(r->field[0], "expect")) return page_line(r);
     if (r->count < 7) return DIFFERS;
-    if (strcmp(r->field[1], "whole") && strcmp(r->field[1], "super")) return LEFT;
+    const int list = !strcmp(r->field[1], "whole2") || !strcmp(r->field[1], "super2");
+    if (!list && strcmp(r->field[1], "whole") && strcmp(r->field[1], "super")) return LEFT;
+    if (list == !strcmp(r->field[3], "-")) return DIFFERS;
+    const way w = list ? with_list(r->field[1], strtoll(r->field[3], NULL, 10)) : without_list(r->field[1]);
     memset(out, UNTOUCHED, sizeof out);
-    paged p = decoded(r->field[1], page_soft, SOFT, decimal(r->field[2]), out, DATA);
-    if (!report_right(&p) || !asks_alike(r->field[1], decimal(r->field[2]), &p, out)) return DIFFERS;
+    paged p = decoded(w, page_soft, SOFT, decimal(r->field[2]), out, DATA);
+    if (!report_right(&p) || !asks_alike(w, decimal(r->field[2]), &p, out)) return DIFFERS;
     if (!strcmp(r->field[4], "refused") && r->count == 7) return refuses(p.number, p.place, r) == SAME && untouched(out, sizeof out) ? SAME : DIFFERS;
     if (strcmp(r->field[4], "ok") || strcmp(r->field[6], "low") || r->count != 25) return DIFFERS;
     return p.number == 0 && p.steps == decimal(r->field[5]) && p.low == atoi(r->field[7]) && level_marks(&p, r->field + 8) && data_of_line(out, r->field[24]) ? SAME : DIFFERS;
@@ -338,7 +424,7 @@ static verdict refusal_line(const record *r) {
     }
     if (!strcmp(r->field[0], "search") && r->count == 7) {
         size_t n = bytes_of(r->field[4], bytes, sizeof bytes);
-        found f = searched(r->field[1], bytes, n, decimal(r->field[2]), decimal(r->field[3]));
+        found f = searched(without_list(r->field[1]), bytes, n, decimal(r->field[2]), decimal(r->field[3]));
         return refuses(f.number, f.place, r);
     }
     if (!strcmp(r->field[0], "outer_encode") && r->count == 5) {
@@ -358,7 +444,7 @@ static verdict refusal_line(const record *r) {
     if (!strcmp(r->field[0], "decode_page") && r->count == 8) {
         dump_input(bytes, 0, r->field[5]);
         memset(page, UNTOUCHED, sizeof page);
-        paged p = decoded(r->field[3], bytes, decimal(r->field[1]), decimal(r->field[4]), page, decimal(r->field[2]));
+        paged p = decoded(without_list(r->field[3]), bytes, decimal(r->field[1]), decimal(r->field[4]), page, decimal(r->field[2]));
         return refuses(p.number, p.place, r) == SAME && report_right(&p) && (p.number == 0 || untouched(page, sizeof page)) ? SAME : DIFFERS;
     }
     if (!strcmp(r->field[0], "write_dump") && r->count == 6)
@@ -412,7 +498,7 @@ static void check_dump(const char *folder, const char *name) {
 }
 
 static const struct { const char *name; verdict (*line_of)(const record *); } texts[] = {
-    {"code.txt", code_line}, {"columns.txt", column_line}, {"search.txt", low_line}, {"lows.txt", low_line}, {"outer.txt", outer_line}, {"pages.txt", page_line}, {"reports.txt", report_line}, {"commit.txt", commit_line}, {"refusals.txt", refusal_line},
+    {"code.txt", code_line}, {"columns.txt", column_line}, {"search.txt", low_line}, {"lows.txt", low_line}, {"list2.txt", list_line}, {"outer.txt", outer_line}, {"pages.txt", page_line}, {"reports.txt", report_line}, {"commit.txt", commit_line}, {"refusals.txt", refusal_line},
 };
 enum { TEXTS = sizeof texts / sizeof texts[0] };
 
@@ -445,7 +531,8 @@ static tally check_dumps(const char *folder) {
     return t;
 }
 
-/* Random data come back from a written page read with surest values, by both decoders, through a dump; and no dump with one byte changed is accepted. */
+/* Random data come back from a written page read with surest values, by both decoders, through a dump; with list of two unsearched, also from weak values that read as the written bits; and no dump
+   with one byte changed is accepted. */
 static tally check_trips(void) {
     static uint8_t data[DATA], page[WRITTEN], soft[SOFT], again[SOFT], dump[DUMP], back[DATA];
     tally t = {0, 0, 0};
@@ -465,6 +552,24 @@ static tally check_trips(void) {
         paged h = entry_decode_page_whole(again, SOFT, 500, back, DATA);
         t.checked++;
         t.differ += !(same && same_report(&h, &clean) && !memcmp(data, back, DATA));
+        const uint64_t limit = trip % 2 ? 1 : 2000;
+        const int64_t threshold = trip % 4 < 2 ? -2000 : 2000;
+        paged unsearched = {.low = 2};
+        for (int weak = 0; weak < 2; weak++) {
+            for (int k = 0; weak && k < SOFT; k++) {
+                state = state * 6364136223846793005u + 1442695040888963407u;
+                soft[k] ^= (uint8_t)(state >> 62);
+            }
+            for (int j = 0; j < ROW; j++) {
+                const int low = walk_of(soft + BITS * j, 0, hard_reading(soft + BITS * j)).low;
+                if (low < unsearched.low) unsearched.low = (int16_t)low;
+            }
+            for (int k = 0; k < 2; k++, t.checked++) {
+                memset(back, UNTOUCHED, DATA);
+                const paged p = decoded(with_list(k ? "w" : "s", threshold), soft, SOFT, limit, back, DATA);
+                t.differ += !(same_report(&p, &unsearched) && !memcmp(data, back, DATA));
+            }
+        }
     }
     for (int k = 0; k < DUMP; k++) {
         uint8_t kept = dump[k];
@@ -480,10 +585,10 @@ static tally check_trips(void) {
 }
 
 /* An asking that is refused, and changes nothing. */
-static int ask_refuses(const char *mode, const uint8_t *soft, size_t n, uint64_t limit, size_t room, uint64_t number, uint64_t place) {
+static int ask_refuses(way w, const uint8_t *soft, size_t n, uint64_t limit, size_t room, uint64_t number, uint64_t place) {
     uint8_t symbols[2 * SYMBOLS];
     memset(symbols, UNTOUCHED, sizeof symbols);
-    const paged a = asked(mode, soft, n, limit, symbols, room), refusal = {.number = number, .place = place};
+    const paged a = asked(w, soft, n, limit, symbols, room), refusal = {.number = number, .place = place};
     return same_report(&a, &refusal) && untouched(symbols, sizeof symbols);
 }
 
@@ -506,15 +611,15 @@ static tally check_commits(void) {
     symbols[0][5] ^= 1;
     for (int n = -1; n <= 1; n++) {
         for (int room = -1; room <= 1; room++) {
-            for (int k = 0; k < 2; k++, t.checked++) t.differ += !ask_refuses(modes[k], soft, (size_t)(SOFT + n), 0, (size_t)(SYMBOLS + room), n ? 1 : room ? 2 : 4, 0);
+            for (int k = 0; k < 2; k++, t.checked++) t.differ += !ask_refuses(without_list(modes[k]), soft, (size_t)(SOFT + n), 0, (size_t)(SYMBOLS + room), n ? 1 : room ? 2 : 4, 0);
             t.differ += !commit_refuses(symbols[0], (size_t)(SYMBOLS + n), (size_t)(DATA + room), n ? 1 : room ? 2 : 5, n || room ? 0 : 3 * ROW + 20);
             t.checked++;
         }
     }
     /* the limit, then the values; a symbol of 64 in row 3, then row 0 that is no word */
     for (int k = 0; k < 2; k++, t.checked += 2) {
-        t.differ += !ask_refuses(modes[k], soft, SOFT, 2001, SYMBOLS, 4, 0);
-        t.differ += !ask_refuses(modes[k], soft, SOFT, 2000, SYMBOLS, 5, 977);
+        t.differ += !ask_refuses(without_list(modes[k]), soft, SOFT, 2001, SYMBOLS, 4, 0);
+        t.differ += !ask_refuses(without_list(modes[k]), soft, SOFT, 2000, SYMBOLS, 5, 977);
     }
     symbols[0][3 * ROW + 20] ^= 64;
     t.differ += !commit_refuses(symbols[0], SYMBOLS, DATA, 14, 0);
@@ -530,6 +635,56 @@ static tally check_commits(void) {
         t.differ += !right;
     }
     printf("asking and committing: %lu checked, %lu differ\n", t.checked, t.differ);
+    return t;
+}
+
+/* A page decode that is refused, and changes nothing. */
+static int decode_refuses(way w, const uint8_t *soft, size_t n, uint64_t limit, size_t room, uint64_t number, uint64_t place) {
+    uint8_t data[2 * DATA];
+    memset(data, UNTOUCHED, sizeof data);
+    const paged p = decoded(w, soft, n, limit, data, room), refusal = {.number = number, .place = place};
+    return same_report(&p, &refusal) && untouched(data, sizeof data);
+}
+
+/* The questions of the calls with list of two, in their order: the threshold after the lengths, the level and the limit, and before the values. */
+static tally check_lists(void) {
+    static const char *const modes[] = {"super", "whole"};
+    static const uint64_t limits[] = {0, 1, 2000, 2001, UINT64_MAX};
+    static const struct { int64_t threshold; int taken; } cases[] = {
+        {-2000, 1}, {-1, 1}, {0, 1}, {2000, 1}, {-2001, 0}, {2001, 0}, {-65536, 0}, {65536, 0}, {-((int64_t)1 << 32), 0}, {(int64_t)1 << 32, 0}, {INT64_MIN, 0}, {INT64_MAX, 0},
+    };
+    static uint8_t soft[SOFT + 1];
+    tally t = {0, 0, 0};
+    for (size_t c = 0; c < sizeof cases / sizeof cases[0]; c++)
+        for (size_t l = 0; l < sizeof limits / sizeof limits[0]; l++)
+            for (int k = 0; k < 2; k++) {
+                const way w = with_list(modes[k], cases[c].threshold);
+                const uint64_t limit = limits[l], number = limit - 1 > 1999 ? 4 : cases[c].taken ? 0 : 11;
+                /* a column and a page with a bad value, of every length near the right one; then levels up to the first wrong one */
+                memset(soft, 0, sizeof soft);
+                soft[17] = 8;
+                for (int n = -1; n <= 1; n++, t.checked++) {
+                    const found refusal = {.number = n ? 1 : number ? number : 5, .place = n || number ? 0 : 17};
+                    t.differ += !same_found(searched(w, soft, (size_t)(BITS + n), 3, limit), refusal);
+                    for (int room = -1; room <= 1; room++, t.checked += 2) {
+                        const uint64_t by = n ? 1 : room ? 2 : number ? number : 5, place = by == 5 ? 17 : 0;
+                        t.differ += !decode_refuses(w, soft, (size_t)(SOFT + n), limit, (size_t)(DATA + room), by, place);
+                        t.differ += !ask_refuses(w, soft, (size_t)(SOFT + n), limit, (size_t)(SYMBOLS + room), by, place);
+                    }
+                }
+                soft[17] = 0;
+                for (uint64_t level = 0; level <= 4; level++, t.checked++) {
+                    const found zero = {.low = (int16_t)(2 + 2 * level)}, refusal = {.number = level > 3 ? 3 : number};
+                    t.differ += !same_found(searched(w, soft, BITS, level, limit), refusal.number ? refusal : zero);
+                }
+                /* a page of zeros but for a one in each column is no page of words: without steps enough it is refused by 10 */
+                for (int j = 0; j < ROW; j++) soft[BITS * j] = 7;
+                if (number == 0 && limit > BITS) continue;
+                t.differ += !decode_refuses(w, soft, SOFT, limit, DATA, number ? number : 10, 0);
+                t.differ += !ask_refuses(w, soft, SOFT, limit, SYMBOLS, number ? number : 10, 0);
+                t.checked += 2;
+            }
+    printf("list of two, refusals: %lu checked, %lu differ\n", t.checked, t.differ);
     return t;
 }
 
@@ -560,7 +715,7 @@ static tally check_look_ups(void) {
 
 int main(int argc, char **argv) {
     const char *folder = argc > 1 ? argv[1] : "tests/vectors";
-    tally parts[TEXTS + 4];
+    tally parts[TEXTS + 5];
     for (int i = 0; i < TEXTS; i++) parts[i] = check_file(folder, texts[i].name, texts[i].line_of);
     count_left(folder, "");
     count_left(folder, "long/");
@@ -568,12 +723,14 @@ int main(int argc, char **argv) {
     parts[TEXTS + 1] = check_trips();
     parts[TEXTS + 2] = check_commits();
     parts[TEXTS + 3] = check_look_ups();
+    parts[TEXTS + 4] = check_lists();
     unsigned long checked = 0, differ = 0;
     if (pages_compared) {
         printf("pages and limits outside the premise where the two decoders differ: %lu\n", pages_apart);
-        differ += !pages_apart;
+        printf("pages and thresholds with list of two inside the premise: %lu\n", lists_compared);
+        differ += !pages_apart + !lists_compared;
     }
-    for (int i = 0; i < TEXTS + 4; i++) {
+    for (int i = 0; i < TEXTS + 5; i++) {
         checked += parts[i].checked;
         differ += parts[i].differ;
     }

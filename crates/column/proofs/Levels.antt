@@ -5,6 +5,7 @@ use mathlib.Core.Bool.{Bool, true, false}
 use Prim.Native.Nat.{ℕ, zero, suc, _+_, _-_, _*_, _/_, _%_, _^_, _≤_, _<_}
 use native.Mathlib.Nat
 use native.Mathlib.Nat.{mod-lt, div-eq-of-lt, mul-suc, mul-le-mul-left}
+use native.Mathlib.Decide.{ℕ-discrete}
 use native.Mathlib.Omega.{arith}
 use lib.Dec.{T, eqb, eqb→eq}
 use lib.Pow.{pow-pos, pow-mono, pow-add, split}
@@ -265,3 +266,29 @@ module _ (S : Shape) (ok : Sound S) where
     λ e. (hw, no-remainder-is-multiple (degree S i) (generator S i) (ok .degrees i h) w (eqb→eq _ 0 (subst T (sym e) tt))),
     λ x. T→true _ (subst (λ (t : ℕ). T (eqb t 0)) (sym (multiple-has-no-remainder (degree S i) (generator S i) (ok .degrees i h) w (x .1))) tt),
   )
+
+  pub level-word-is-word : (i s : ℕ) → i < levels S → s < 2 ^ m → Word n (levelCode S i) (levelWord S i s)
+  unfolding degree
+  level-word-is-word i s h hs =
+      let one : 1 ≤ levels S - i = omega arith in
+      let wide : m ≤ m * (levels S - i) = subst (λ (t : ℕ). t ≤ m * (levels S - i)) (Nat.mul-one m) (mul-le-mul-left m one) in
+      let room : m * (levels S - i) ≤ n = room-for (levels S - i) (Nat.sub-le (levels S) i) in
+      let fits : degree S i + m ≤ n = omega arith in
+      (Nat.lt-of-lt-of-le (level-word-zeros i s h hs) (pow-mono fits), level-word-multiple i s h)
+
+  -- no word is the only one of its level: the level words of 0 and 1 are two
+  pub another-word : (i w : ℕ) → i < levels S → 0 < m → (x : ℕ) × Word n (levelCode S i) x × (x ≡ w → ⊥)
+  another-word i w h some = go (ℕ-discrete w (levelWord S i 0))
+    where
+      two : 2 ≤ 2 ^ m
+      two = pow-mono {i = 1} {j = m} some
+
+      go : Dec (w ≡ levelWord S i 0) → (x : ℕ) × Word n (levelCode S i) x × (x ≡ w → ⊥)
+      go (yes e) = (
+        levelWord S i 1,
+        level-word-is-word i 1 h (omega (arith, two)),
+        λ k.
+            let same : _≡_ {A = ℕ} 1 0 = sym (level-word-symbol i 1 h) ∙ ap (λ (t : ℕ). t / 2 ^ degree S i) (k ∙ e) ∙ level-word-symbol i 0 h in
+            absurd (omega arith),
+      )
+      go (no ne) = (levelWord S i 0, level-word-is-word i 0 h (omega (arith, two)), λ k. ne (sym k))

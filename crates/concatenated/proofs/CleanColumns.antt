@@ -1,15 +1,14 @@
 -- A column that reads as a codeword: this codeword is ahead of all others, so both searches find it, at any sureness. Assumes nothing.
-use mathlib.Core.Bool.{Bool, true, false, cond, not}
-use mathlib.Core.List.{List, [], _∷_, _++_, map}
+use mathlib.Core.Bool.{Bool, true, false, cond}
+use mathlib.Core.List.{List, [], _∷_}
 use mathlib.Core.Logic.{_⊎_, inl, inr, ⊎-elim}
 use mathlib.Core.Path.{_≡_, refl, sym, ap, ap₂, _∙_, subst, subst⁻¹}
-use Prim.Native.Nat.{ℕ, zero, suc, _+_, _-_, _*_, _≤_, _<_}
+use Prim.Native.Nat.{ℕ, zero, suc, _-_, _≤_, _<_}
 use native.Mathlib.Decide.{decLe}
 use native.Mathlib.Omega.{arith}
 use lib.Dec.{eqb, ltb}
 use lib.IntN.{pos, _+ℤ_}
-use lib.ListN.{length, getD, take}
-use lib.Seq.{take-suc, take-all}
+use lib.ListN.{length, getD}
 use lib.Signed.{ltZ}
 use borrow.Author.Tests.{eq-eqb, ne-eqb}
 use Rattle.column.specs.Shape.{Shape, Word, levels, levelCode}
@@ -21,29 +20,17 @@ use Rattle.trellis.specs.Values.{Values, reading, doubt, branch}
 use Rattle.trellis.specs.Order.{bit, number, sum, zeroFirst, firstBy, before}
 use Rattle.trellis.specs.Trellis.{WordFound}
 use Rattle.trellis.specs.Demand.{Search as Kind, Codeword, AheadOfAll}
+use Rattle.trellis.specs.TwoWords.{off, hardPath}
 use Rattle.trellis.proofs.Values.{doubt-lt}
 use Rattle.trellis.proofs.Order.{order}
 use Rattle.trellis.proofs.Demand.{Searchable}
-use Rattle.packing.specs.Packing.{joined}
+use Rattle.trellis.proofs.HardPath.{readBit, read-bit-is-reading, hard-path-length}
 use Rattle.concatenated.specs.SoftPage.{hardReading}
 use Rattle.concatenated.specs.Readers.{readerOf}
 use Rattle.concatenated.specs.Clean.{AgreeingIsAbove, FindsTheReading}
-use Rattle.concatenated.proofs.Lists.{map-append}
+use Rattle.concatenated.proofs.HardReading.{hard-path-number}
 use Rattle.concatenated.proofs.Integers.{same-before, sum-smaller}
 use Rattle.concatenated.proofs.Searches.{found-is-ahead-of-all}
-
--- ---- the bit that a value reads as
-
-abbrev readBit : ℕ → Bool
-readBit q = not (ltb q 4)
-
-read-bit-is-reading : (q : ℕ) → bit (readBit q) ≡ reading q
-unfolding reading
-read-bit-is-reading q = go (ltb q 4)
-  where
-    go : (b : Bool) → bit (not b) ≡ cond b 0 1
-    go true = refl
-    go false = refl
 
 module _ (vs : Values) (above : AgreeingIsAbove vs) (c : List ℕ) where
   -- ---- sums of paths
@@ -137,39 +124,16 @@ module _ (vs : Values) (above : AgreeingIsAbove vs) (c : List ℕ) where
 
   -- ---- the hard reading as a path
 
-  unfoldable readPath : ℕ → Path
-  readPath zero = []
-  readPath (suc k) = readBit (getD c k 0) ∷ readPath k
-
-  read-path-length : (k : ℕ) → length (readPath k) ≡ k
-  unfolding readPath
-  read-path-length zero = refl
-  read-path-length (suc k) = ap suc (read-path-length k)
-
-  read-path-reads : (k : ℕ) → Reads (readPath k)
-  unfolding readPath
-  read-path-reads zero = tt
-  read-path-reads (suc k) = (ap (λ (t : ℕ). readBit (getD c t 0)) (sym (read-path-length k)), read-path-reads k)
-
-  joined-snoc : (base x d : ℕ) (ds : List ℕ) → joined base x (ds ++ (d ∷ [])) ≡ joined base x ds * base + d
-  unfolding joined
-  joined-snoc base x d [] = refl
-  joined-snoc base x d (e ∷ ds) = joined-snoc base (x * base + e) d ds
-
-  read-path-number : (k : ℕ) → k ≤ length c → number (readPath k) ≡ joined 2 0 (map reading (take k c))
-  unfolding readPath number joined
-  read-path-number zero h = refl
-  read-path-number (suc k) h =
-      ap₂ (λ (x y : ℕ). x * 2 + y) (read-path-number k (omega arith)) (read-bit-is-reading (getD c k 0)) ∙ sym (joined-snoc 2 0 (reading (getD c k 0)) (map reading (take k c)))
-      ∙ ap (joined 2 0) (sym (ap (map reading) (take-suc c k 0 h) ∙ map-append reading (take k c) (getD c k 0 ∷ [])))
+  hard-path-reads : (k : ℕ) → Reads (hardPath c k)
+  unfolding hardPath
+  hard-path-reads zero = tt
+  hard-path-reads (suc k) = (ap (λ (t : ℕ). readBit (getD c t 0)) (sym (hard-path-length c k)), hard-path-reads k)
 
   pub reading-has-a-path : (w : Path) × (length w ≡ length c) × (number w ≡ hardReading c) × Reads w
-  unfolding hardReading
-  reading-has-a-path =
-      (readPath (length c), read-path-length (length c), read-path-number (length c) (omega arith) ∙ ap (λ (t : List ℕ). joined 2 0 (map reading t)) (take-all (length c) c (omega arith)), read-path-reads (length c))
+  reading-has-a-path = (hardPath c (length c), hard-path-length c (length c), hard-path-number c, hard-path-reads (length c))
 
 -- both searches find the reading of a column that reads as a codeword, if they are not spent
-pub searches-find-the-reading : (S : Shape) → ((i : ℕ) → i < levels S → Searchable S i) → (vs : ℕ → Values) → ((i : ℕ) → AgreeingIsAbove (vs i)) → (limit : ℕ) (kind : Kind) → FindsTheReading S (readerOf kind S vs limit)
+pub searches-find-the-reading : (S : Shape) → ((i : ℕ) → i < levels S → Searchable S i) → (vs : ℕ → Values) → ((i : ℕ) → AgreeingIsAbove (vs i)) → (limit : ℕ) (kind : Kind) → FindsTheReading S (readerOf off kind S vs limit)
 searches-find-the-reading S searchable vs above limit kind i h c x n long soft word e =
     let r = reading-has-a-path (vs i) (above i) c in
     let code : Codeword S i (r .0) = record { long = r .1 ∙ long; word = subst⁻¹ (Word (S .bits) (levelCode S i)) (r .2) word } in

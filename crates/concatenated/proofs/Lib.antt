@@ -9,6 +9,9 @@ pub mod RowsBack
 pub mod PageBack
 pub mod Agreement
 pub mod Searches
+pub mod Readings
+pub mod HardReading
+pub mod TwoWords
 pub mod DecodersAgree
 pub mod Answers
 pub mod CleanPages

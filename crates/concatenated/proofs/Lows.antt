@@ -1,22 +1,21 @@
 -- 02, point 8: an answered page has an unerased column at every level, so its low point is that of a column, and no unerased column's is below it. Assumes nothing.
 use mathlib.Core.List.{List, [], _∷_, _++_, map, flatMap}
-use mathlib.Core.Path.{_≡_, refl, sym, ap, _∙_, subst⁻¹}
-use Prim.Native.Nat.{ℕ, zero, _+_, _*_, _≤_, _<_}
+use mathlib.Core.Path.{_≡_, refl, ap, _∙_, subst⁻¹}
+use Prim.Native.Nat.{ℕ, _+_, _≤_, _<_}
 use native.Mathlib.Omega.{arith}
 use lib.Dec.{lit<}
 use lib.IntN.{ℤ, natAbs}
 use lib.ListN.{length, length-map, length-append, getD}
 use lib.Signed.{_≤ℤ_}
 use Rattle.column.specs.Shape.{Shape, levels, short}
-use Rattle.paths.specs.Low.{lowest-from, Lowest, low-point}
+use Rattle.paths.specs.Low.{lowest-from, Lowest}
 use Rattle.paths.proofs.Low.{lowest-is, lowest-from-above}
-use Rattle.trellis.specs.Values.{Values, levelValues}
-use Rattle.trellis.specs.Order.{sum}
+use Rattle.trellis.specs.Values.{levelValues}
 use Rattle.trellis.specs.Trellis.{WordFound}
 use Rattle.trellis.specs.Keys.{noneTaken}
 use Rattle.trellis.specs.Demand.{Search as Kind}
-use Rattle.trellis.proofs.Demand.{Searchable, one-codeword-is-ahead-of-all}
-use Rattle.trellis.proofs.Sums.{Near, near-is-not-above, level-values-near, low-point-near}
+use Rattle.trellis.specs.TwoWords.{Choice}
+use Rattle.trellis.proofs.Sums.{near-is-not-above, level-values-near}
 use Rattle.trellis.proofs.Short.{searchable}
 use Rattle.reedsolomon.specs.Words.{InReach}
 use Rattle.reedsolomon.proofs.ShortRows.{at-most-30-roots}
@@ -25,11 +24,11 @@ use Rattle.concatenated.specs.Format.{Format, shortPage, shortRoots}
 use Rattle.concatenated.specs.Outer.{RowDecoder, RowEncoder, OuterLaws}
 use Rattle.concatenated.specs.Decode.{Reading, found, spent, Reader, mark, marks, lows, Level, level, answered, decoded, allLows, pageLow}
 use Rattle.concatenated.specs.OuterCode.{shortOuter, shortEncoder, ShortCodeword}
-use Rattle.concatenated.specs.Readers.{readerOf, shortReader}
+use Rattle.concatenated.specs.Readers.{shortReader}
 use Rattle.concatenated.proofs.Lists.{all-map, all-member, all-by-entries}
 use Rattle.concatenated.proofs.Groups.{flat-more, flat-all}
 use Rattle.concatenated.proofs.OuterJoint.{outer-laws}
-use Rattle.concatenated.proofs.Searches.{found-is-ahead-of-all}
+use Rattle.concatenated.proofs.Readings.{found-low-is-near, readers-read-words}
 use Rattle.concatenated.proofs.Answers.{noLevel, answer-is-of-levels, reached-columns-are-all, changed-and-erased-are-e-and-s}
 
 -- a level's low points and its erased columns together are its columns
@@ -73,16 +72,6 @@ module _ (S : Shape) (outer : RowDecoder) (read : Reader) (page : List (List ℕ
       let of = below .each i level-h noLevel in
       subst⁻¹ (λ (l : Level). All Q (l .lows)) (of .is-level) (lows-each i level-h (of .columns))))
 
--- they are near zero
-pub found-low-is-near : (S : Shape) (i : ℕ) → Searchable S i → (vs : ℕ → Values) (k : ℕ) → Near k (vs i) → (limit : ℕ) (kind : Kind) (c : List ℕ) (w : WordFound) (n : ℕ)
-    → readerOf kind S vs limit i c ≡ found w n → natAbs (w .low) ≤ k * S .bits
-found-low-is-near S i given vs k near limit kind c w n e =
-    let best = one-codeword-is-ahead-of-all S i given (vs i) c in
-    let code = best .1 .codeword in
-    let is = found-is-ahead-of-all S i given vs limit c kind (best .0) (best .1) w n e .0 in
-    subst⁻¹ (λ (x : WordFound). natAbs (x .low) ≤ k * S .bits) is
-    (subst⁻¹ (λ (b : ℕ). natAbs (low-point (sum (vs i) c) (best .0)) ≤ k * b) (sym (code .long)) (low-point-near k (vs i) near c (best .0) (omega (arith, code .long, given .some-bits))))
-
 -- ---- with the laws of the outer code
 
 module _ (P : Format) (outer : RowDecoder) (encoded : RowEncoder) (Codeword : ℕ → List ℕ → Type 0) (laws : OuterLaws P outer encoded Codeword) (read : Reader)
@@ -121,20 +110,20 @@ module _ (P : Format) (outer : RowDecoder) (encoded : RowEncoder) (Codeword : �
 
 -- ---- the short page
 
-module _ (kind : Kind) (limit : ℕ) (page : List (List ℕ)) (wide : length page ≡ 63) (ls : List Level) (n : ℕ) (e : decoded short shortOuter (shortReader kind limit) page ≡ answered ls n) where
+module _ (choice : Choice) (kind : Kind) (limit : ℕ) (page : List (List ℕ)) (wide : length page ≡ 63) (ls : List Level) (n : ℕ) (e : decoded short shortOuter (shortReader choice kind limit) page ≡ answered ls n) where
   few-roots : (i : ℕ) → i < 4 → shortRoots i < 63
   few-roots i h = omega (arith, at-most-30-roots i)
 
   pub short-levels-have-an-unerased-column : (i : ℕ) → i < 4 → (d : Level) → (total (getD ls i d .erased) < 63) × (length (getD ls i d .lows) + total (getD ls i d .erased) ≡ 63)
   short-levels-have-an-unerased-column i h =
-      every-level-has-an-unerased-column shortPage shortOuter shortEncoder ShortCodeword outer-laws (shortReader kind limit) page wide ls n e i h (few-roots i h)
+      every-level-has-an-unerased-column shortPage shortOuter shortEncoder ShortCodeword outer-laws (shortReader choice kind limit) page wide ls n e i h (few-roots i h)
 
   pub short-page-low-is-lowest : Lowest (allLows ls) (pageLow ls)
-  short-page-low-is-lowest = page-low-is-lowest shortPage shortOuter shortEncoder ShortCodeword outer-laws (shortReader kind limit) page wide ls n e (lit< tt) few-roots
+  short-page-low-is-lowest = page-low-is-lowest shortPage shortOuter shortEncoder ShortCodeword outer-laws (shortReader choice kind limit) page wide ls n e (lit< tt) few-roots
 
   -- each low point lies within 60 a bit of zero
   lows-near : All (λ z. natAbs z ≤ 1800) (allLows ls)
-  lows-near = low-points-of-an-answer short shortOuter (shortReader kind limit) page (λ z. natAbs z ≤ 1800) (λ i h c w m found. found-low-is-near short i (searchable i h) levelValues 60 (level-values-near i h) limit kind c w m found) ls n e
+  lows-near = low-points-of-an-answer short shortOuter (shortReader choice kind limit) page (λ z. natAbs z ≤ 1800) (λ i h c w m found. found-low-is-near short i (searchable i h) levelValues limit (shortReader choice kind limit) (readers-read-words short i (searchable i h) levelValues limit choice kind) c 60 (level-values-near i h) w m found) ls n e
 
   pub short-page-low-is-near : natAbs (pageLow ls) ≤ 1800
   short-page-low-is-near = all-member (λ z. natAbs z ≤ 1800) (allLows ls) lows-near (pageLow ls) (short-page-low-is-lowest .is-one)
@@ -142,5 +131,5 @@ module _ (kind : Kind) (limit : ℕ) (page : List (List ℕ)) (wide : length pag
   -- so the lowest of them and of the largest number of 16 bits is the page's low point
   pub short-page-low-from : lowest-from noneTaken (allLows ls) ≡ pageLow ls
   short-page-low-from =
-      page-low-from shortPage shortOuter shortEncoder ShortCodeword outer-laws (shortReader kind limit) page wide ls n e (lit< tt) few-roots noneTaken
+      page-low-from shortPage shortOuter shortEncoder ShortCodeword outer-laws (shortReader choice kind limit) page wide ls n e (lit< tt) few-roots noneTaken
       (all-map (allLows ls) (λ z near. near-is-not-above z 32767 (omega (arith, near))) lows-near)

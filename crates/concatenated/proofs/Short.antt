@@ -3,6 +3,7 @@ use mathlib.Core.List.{List, [], _∷_}
 use mathlib.Core.Path.{_≡_, refl, ap₂, _∙_}
 use Prim.Native.Nat.{ℕ, zero, suc, _*_}
 use native.Mathlib.Omega.{arith}
+use lib.Dec.{lit<}
 use lib.IntN.{pos, _+ℤ_}
 use lib.ListN.{length, getD}
 use lib.Signed.{ltZ}
@@ -11,6 +12,7 @@ use Rattle.column.proofs.Short as Column
 use Rattle.column.proofs.Tabulated.{map-at}
 use Rattle.trellis.specs.Values.{values, levelValues}
 use Rattle.trellis.specs.Demand.{Search as Kind, whole, supercode}
+use Rattle.trellis.specs.TwoWords.{Choice, off}
 use Rattle.trellis.proofs.Short as Columns
 use Rattle.packing.specs.Packing.{columnBytes}
 use Rattle.concatenated.specs.Lists.{All, total}
@@ -22,7 +24,7 @@ use Rattle.concatenated.specs.SoftPage.{Soft, softColumns}
 use Rattle.concatenated.specs.Decode.{Level, answered, decoded, rows, Reaches, AtEveryLevel}
 use Rattle.concatenated.specs.Written.{writtenRows, writtenPage, columnsOf, columnInBytes, bytesOfRows}
 use Rattle.concatenated.specs.Misread.{WithinReach}
-use Rattle.concatenated.specs.Readers.{shortReader, deadAhead, Apart, Agree, NoColumnSpent, NoneSpent, sumBelow}
+use Rattle.concatenated.specs.Readers.{shortReader, deadAhead, Apart, Agree, NoColumnSpent, NoneEnded, sumBelow}
 use Rattle.concatenated.specs.Clean.{ReadsAs, AgreeingIsAbove}
 use Rattle.concatenated.proofs.Digits.{Below}
 use Rattle.concatenated.proofs.Encoding.{page-in-bytes-length}
@@ -73,35 +75,35 @@ module _ (outer : RowDecoder) (encoded : RowEncoder) (Codeword : ℕ → List �
   written-page-length bytes = page-in-bytes-length shortPage (writtenRows shortPage encoded bytes)
 
   -- demand 2: "A written page comes back wherever, at each level, twice the misread columns plus the unread ones stay within 30, 12, 6 and 4."
-  pub written-page-comes-back : (kind : Kind) (limit : ℕ) (bytes : List ℕ) → length bytes ≡ 150 → Below 256 bytes → (soft : List ℕ)
-      → WithinReach shortPage outer (shortReader kind limit) (columnsOf 63 (writtenRows shortPage encoded bytes)) (softColumns shortPage soft)
-      → (ls : List Level) × (n : ℕ) × (decoded short outer (shortReader kind limit) (softColumns shortPage soft) ≡ answered ls n)
+  pub written-page-comes-back : (choice : Choice) (kind : Kind) (limit : ℕ) (bytes : List ℕ) → length bytes ≡ 150 → Below 256 bytes → (soft : List ℕ)
+      → WithinReach shortPage outer (shortReader choice kind limit) (columnsOf 63 (writtenRows shortPage encoded bytes)) (softColumns shortPage soft)
+      → (ls : List Level) × (n : ℕ) × (decoded short outer (shortReader choice kind limit) (softColumns shortPage soft) ≡ answered ls n)
       × (rows ls ≡ writtenRows shortPage encoded bytes) × (bytesOfRows shortPage (rows ls) ≡ bytes)
-  written-page-comes-back kind limit bytes full are-bytes =
-      PageBack.written-soft-page-comes-back shortPage short-page-sound outer encoded Codeword laws (shortReader kind limit) bytes full are-bytes
+  written-page-comes-back choice kind limit bytes full are-bytes =
+      PageBack.written-soft-page-comes-back shortPage short-page-sound outer encoded Codeword laws (shortReader choice kind limit) bytes full are-bytes
 
   -- 02, point 12: "if each soft value reads as the written bit, at any sureness, and no column is spent, the data comes back with no column changed"
   pub clean-page-comes-back : (kind : Kind) (limit : ℕ) (bytes : List ℕ) → length bytes ≡ 150 → Below 256 bytes → (soft : List ℕ) → length soft ≡ 1890 → Soft soft
-      → ReadsAs short 0 (softColumns shortPage soft) (columnsOf 63 (writtenRows shortPage encoded bytes)) → NoColumnSpent short outer (shortReader kind limit) (softColumns shortPage soft)
-      → (ls : List Level) × (n : ℕ) × (decoded short outer (shortReader kind limit) (softColumns shortPage soft) ≡ answered ls n)
+      → ReadsAs short 0 (softColumns shortPage soft) (columnsOf 63 (writtenRows shortPage encoded bytes)) → NoColumnSpent short outer (shortReader off kind limit) (softColumns shortPage soft)
+      → (ls : List Level) × (n : ℕ) × (decoded short outer (shortReader off kind limit) (softColumns shortPage soft) ≡ answered ls n)
       × (rows ls ≡ writtenRows shortPage encoded bytes) × (bytesOfRows shortPage (rows ls) ≡ bytes) × All (λ l. total (l .changed) ≡ 0) ls
   clean-page-comes-back kind limit bytes full are-bytes soft long values-soft clean all-read =
-      CleanPages.clean-page-comes-back shortPage short-page-sound outer encoded Codeword laws (shortReader kind limit)
+      CleanPages.clean-page-comes-back shortPage short-page-sound outer encoded Codeword laws (shortReader off kind limit)
       (searches-find-the-reading short Columns.searchable levelValues level-values-agree-above limit kind) bytes (softColumns shortPage soft) (as-many-columns shortPage soft)
       (columns-are-soft shortPage soft long values-soft) clean all-read full are-bytes
 
--- demand 3 for pages, of every outer decoder
-module _ (outer : RowDecoder) (limit : ℕ) (page : List (List ℕ)) (none-spent : NoneSpent short outer (shortReader supercode limit) page) where
-  -- the dead paths ahead of the codewords of all column searches together
+-- demand 3 for pages, of every outer decoder; 02, point 1: "With the choice on, both decoders still match on pages where no supercode search, first or second, met its limit"
+module _ (outer : RowDecoder) (choice : Choice) (limit : ℕ) (page : List (List ℕ)) (none-ended : NoneEnded choice short outer levelValues limit page) where
+  -- the dead paths ahead of all column searches together
   abbrev pub allDeadAhead : ℕ
-  allDeadAhead = sumBelow short outer (shortReader supercode limit) page (deadAhead short levelValues limit) 4
+  allDeadAhead = sumBelow short outer (shortReader choice supercode limit) page (deadAhead choice short levelValues limit) 4
 
-  pub decoders-agree : Agree allDeadAhead (decoded short outer (shortReader whole limit) page) (decoded short outer (shortReader supercode limit) page)
-  decoders-agree = DecodersAgree.decoders-agree short Columns.searchable one-code outer levelValues limit page none-spent
+  pub decoders-agree : Agree allDeadAhead (decoded short outer (shortReader choice whole limit) page) (decoded short outer (shortReader choice supercode limit) page)
+  decoders-agree = DecodersAgree.decoders-agree short Columns.searchable (lit< tt) one-code outer choice levelValues limit page none-ended
 
-  pub column-searches-differ-by-the-dead-ahead : AtEveryLevel short outer (shortReader supercode limit) page
-      (λ i cs. Reaches short outer (shortReader whole limit) page i cs × All (λ c. Apart (deadAhead short levelValues limit i c) (shortReader whole limit i c) (shortReader supercode limit i c)) cs)
+  pub column-searches-differ-by-the-dead-ahead : AtEveryLevel short outer (shortReader choice supercode limit) page
+      (λ i cs. Reaches short outer (shortReader choice whole limit) page i cs × All (λ c. Apart (deadAhead choice short levelValues limit i c) (shortReader choice whole limit i c) (shortReader choice supercode limit i c)) cs)
   column-searches-differ-by-the-dead-ahead i h cs at = (
-    DecodersAgree.decoders-search-the-same-columns short Columns.searchable one-code outer levelValues limit page none-spent i (omega arith) cs at,
-    DecodersAgree.column-searches-differ-by-the-dead-ahead short Columns.searchable one-code outer levelValues limit page none-spent i h cs at,
+    DecodersAgree.decoders-search-the-same-columns short Columns.searchable (lit< tt) one-code outer choice levelValues limit page none-ended i (omega arith) cs at,
+    DecodersAgree.column-searches-differ-by-the-dead-ahead short Columns.searchable (lit< tt) one-code outer choice levelValues limit page none-ended i h cs at,
   )

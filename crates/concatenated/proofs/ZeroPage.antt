@@ -23,6 +23,7 @@ use Rattle.concatenated.specs.Data.{repacked, digits}
 use Rattle.concatenated.specs.SoftPage.{softColumns}
 use Rattle.concatenated.specs.Decode.{Reading, found, Reader, symbol, symbols, mark, marks, lows, count, steps, rowOff, changed, Level, level, going, answered, decodedRow, run, outcome, decoded, rows}
 use Rattle.concatenated.specs.Written.{rowsData, bytesOfRows}
+use Rattle.trellis.specs.TwoWords.{off}
 use Rattle.concatenated.specs.Readers.{readingOf, readerOf, shortReader}
 use Rattle.concatenated.specs.ZeroPage.{zeroPage, zeroLevel}
 use Rattle.concatenated.proofs.Counting.{in-reach-by-totals}
@@ -100,7 +101,7 @@ zero-row-is-a-codeword : (i : ℕ) → ShortCodeword i (replicate 63 0)
 zero-row-is-a-codeword i =
     record { word = (length-replicate {A = ℕ} 63 0, λ j l. subst⁻¹ (λ (x : ℕ). x < 64) (getD-replicate 63 j 0 0 l) (lit< tt)); code = zeros-are-a-codeword 6 67 63 (shortRoots i) primitive64 (lit< tt) 63 }
 
-zero-column-is-read : (kind : Kind) (limit : ℕ) → 30 ≤ limit → (i : ℕ) → i < 4 → shortReader kind limit i (replicate 30 0) ≡ found (zeroFound i) 30
+zero-column-is-read : (kind : Kind) (limit : ℕ) → 30 ≤ limit → (i : ℕ) → i < 4 → shortReader off kind limit i (replicate 30 0) ≡ found (zeroFound i) 30
 unfolding readerOf readingOf
 zero-column-is-read kind limit l i h = ap (readingOf limit) (zero-column-in-30-steps kind i h limit l)
 
@@ -110,9 +111,9 @@ zeroLevels = listed (λ i. zeroLevel shortPage (zeroFound i .low)) 4
 
 -- by either search, with every limit from 30 on, in 7560 steps
 pub zero-page-comes-back : (kind : Kind) (limit : ℕ) → 30 ≤ limit
-    → decoded short shortOuter (shortReader kind limit) (softColumns shortPage (zeroPage shortPage)) ≡ answered zeroLevels 7560
+    → decoded short shortOuter (shortReader off kind limit) (softColumns shortPage (zeroPage shortPage)) ≡ answered zeroLevels 7560
 zero-page-comes-back kind limit l =
-    zero-page-is-read shortPage shortOuter shortEncoder ShortCodeword outer-laws (λ i h. zero-row-is-a-codeword i) (shortReader kind limit) 30 (λ i. zeroFound i .low) (zero-column-is-read kind limit l)
+    zero-page-is-read shortPage shortOuter shortEncoder ShortCodeword outer-laws (λ i h. zero-row-is-a-codeword i) (shortReader off kind limit) 30 (λ i. zeroFound i .low) (zero-column-is-read kind limit l)
 
 -- these levels hold 150 bytes of zero
 pub zero-levels-hold-zeros : bytesOfRows shortPage (rows zeroLevels) ≡ replicate 150 0

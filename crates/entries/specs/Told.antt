@@ -10,6 +10,7 @@ use Prim.Native.Nat.{ℕ}
 use Rattle.questions.specs.declared.Outcome.{Outcome}
 use Rattle.questions.specs.Outcome as outcomes
 use Rattle.trellis.specs.Demand.{Search}
+use Rattle.trellis.specs.TwoWords.{Choice}
 use Rattle.page.specs.declared.PageOutcome.{PageOutcome}
 use Rattle.store_pages.specs.Pages.{PageFilled}
 use Rattle.entries.specs.declared.PageReply.{PageReply}
@@ -37,7 +38,7 @@ pageReplyOf o =
     record { number = o .number; place = o .place; steps = r .steps; changed = r .changed; erased = r .erased; «changed_marks» = r .«changed_marks»; «erased_marks» = r .«erased_marks»; low = r .low }
 
 -- a page call told r of the outcome that its contract settles, and left `new` in the place of `old`
-pub record PageReplied (B : Buffer) (s : Search) (soft : List ℕ) (limit : ℕ) (old : List ℕ) (r : PageReply) (new : List ℕ) : Type 0 where
+pub record PageReplied (B : Buffer) (choice : Choice) (s : Search) (soft : List ℕ) (limit : ℕ) (old : List ℕ) (r : PageReply) (new : List ℕ) : Type 0 where
   pub outcome : PageOutcome
-  pub filled : PageFilled B s soft limit old outcome new
+  pub filled : PageFilled B choice s soft limit old outcome new
   pub told : r ≡ pageReplyOf outcome

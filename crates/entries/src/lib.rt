@@ -2,6 +2,7 @@
 ghost use mathlib.Core.Path.{_≡_};
 ghost use Rattle.store_columns.specs.Columns.{encodeAnswer, levelWordAnswer, reimageAnswer};
 ghost use Rattle.trellis.specs.Demand.{whole, supercode};
+ghost use Rattle.trellis.specs.TwoWords.{off, on};
 ghost use Rattle.store_searches.specs.Searches.{searchAnswer};
 ghost use Rattle.reedsolomon.specs.Row.{outerAnswer, encodedRow, wordOf};
 ghost use Rattle.dump.specs.Dump.{dumpOf, softOf};
@@ -101,16 +102,40 @@ fn numbers_of_search(answer: SearchAnswer) -> Found
 
 #[no_mangle]
 pub extern "C" fn entry_search_whole(level: u64, soft: &[u8], limit: u64) -> Found
-    ensures { λ r. ⌜ r ≡ foundOf (searchAnswer whole level (now (soft .entry)) limit) ⌝ }
+    ensures { λ r. ⌜ r ≡ foundOf (searchAnswer off whole level (now (soft .entry)) limit) ⌝ }
 {
     numbers_of_search(store_searches::search_whole(level, soft, limit))
 }
 
 #[no_mangle]
 pub extern "C" fn entry_search_supercode(level: u64, soft: &[u8], limit: u64) -> Found
-    ensures { λ r. ⌜ r ≡ foundOf (searchAnswer supercode level (now (soft .entry)) limit) ⌝ }
+    ensures { λ r. ⌜ r ≡ foundOf (searchAnswer off supercode level (now (soft .entry)) limit) ⌝ }
 {
     numbers_of_search(store_searches::search_supercode(level, soft, limit))
+}
+
+#[no_mangle]
+pub extern "C" fn entry_search_whole_list(
+    level: u64,
+    soft: &[u8],
+    limit: u64,
+    threshold: i64,
+) -> Found
+    ensures { λ r. ⌜ r ≡ foundOf (searchAnswer (on threshold) whole level (now (soft .entry)) limit) ⌝ }
+{
+    numbers_of_search(store_searches::search_whole_list(level, soft, limit, threshold))
+}
+
+#[no_mangle]
+pub extern "C" fn entry_search_supercode_list(
+    level: u64,
+    soft: &[u8],
+    limit: u64,
+    threshold: i64,
+) -> Found
+    ensures { λ r. ⌜ r ≡ foundOf (searchAnswer (on threshold) supercode level (now (soft .entry)) limit) ⌝ }
+{
+    numbers_of_search(store_searches::search_supercode_list(level, soft, limit, threshold))
 }
 
 #[repr(C)]
@@ -209,30 +234,78 @@ fn numbers_of_page(outcome: PageOutcome) -> PageReply
 
 #[no_mangle]
 pub extern "C" fn entry_decode_page(soft: &[u8], limit: u64, data: &mut [u8]) -> PageReply
-    ensures { λ r. ⌜ PageReplied dataBuffer supercode (now (soft .entry)) limit (now («data» .entry)) r (now («data» .exit)) ⌝ }
+    ensures { λ r. ⌜ PageReplied dataBuffer off supercode (now (soft .entry)) limit (now («data» .entry)) r (now («data» .exit)) ⌝ }
 {
     numbers_of_page(store_pages::decode_page(soft, limit, data))
 }
 
 #[no_mangle]
 pub extern "C" fn entry_decode_page_whole(soft: &[u8], limit: u64, data: &mut [u8]) -> PageReply
-    ensures { λ r. ⌜ PageReplied dataBuffer whole (now (soft .entry)) limit (now («data» .entry)) r (now («data» .exit)) ⌝ }
+    ensures { λ r. ⌜ PageReplied dataBuffer off whole (now (soft .entry)) limit (now («data» .entry)) r (now («data» .exit)) ⌝ }
 {
     numbers_of_page(store_pages::decode_page_whole(soft, limit, data))
 }
 
 #[no_mangle]
 pub extern "C" fn entry_ask_page(soft: &[u8], limit: u64, symbols: &mut [u8]) -> PageReply
-    ensures { λ r. ⌜ PageReplied symbolBuffer supercode (now (soft .entry)) limit (now (symbols .entry)) r (now (symbols .exit)) ⌝ }
+    ensures { λ r. ⌜ PageReplied symbolBuffer off supercode (now (soft .entry)) limit (now (symbols .entry)) r (now (symbols .exit)) ⌝ }
 {
     numbers_of_page(store_pages::ask_page(soft, limit, symbols))
 }
 
 #[no_mangle]
 pub extern "C" fn entry_ask_page_whole(soft: &[u8], limit: u64, symbols: &mut [u8]) -> PageReply
-    ensures { λ r. ⌜ PageReplied symbolBuffer whole (now (soft .entry)) limit (now (symbols .entry)) r (now (symbols .exit)) ⌝ }
+    ensures { λ r. ⌜ PageReplied symbolBuffer off whole (now (soft .entry)) limit (now (symbols .entry)) r (now (symbols .exit)) ⌝ }
 {
     numbers_of_page(store_pages::ask_page_whole(soft, limit, symbols))
+}
+
+#[no_mangle]
+pub extern "C" fn entry_decode_page_list(
+    soft: &[u8],
+    limit: u64,
+    threshold: i64,
+    data: &mut [u8],
+) -> PageReply
+    ensures { λ r. ⌜ PageReplied dataBuffer (on threshold) supercode (now (soft .entry)) limit (now («data» .entry)) r (now («data» .exit)) ⌝ }
+{
+    numbers_of_page(store_pages::decode_page_list(soft, limit, threshold, data))
+}
+
+#[no_mangle]
+pub extern "C" fn entry_decode_page_whole_list(
+    soft: &[u8],
+    limit: u64,
+    threshold: i64,
+    data: &mut [u8],
+) -> PageReply
+    ensures { λ r. ⌜ PageReplied dataBuffer (on threshold) whole (now (soft .entry)) limit (now («data» .entry)) r (now («data» .exit)) ⌝ }
+{
+    numbers_of_page(store_pages::decode_page_whole_list(soft, limit, threshold, data))
+}
+
+#[no_mangle]
+pub extern "C" fn entry_ask_page_list(
+    soft: &[u8],
+    limit: u64,
+    threshold: i64,
+    symbols: &mut [u8],
+) -> PageReply
+    ensures { λ r. ⌜ PageReplied symbolBuffer (on threshold) supercode (now (soft .entry)) limit (now (symbols .entry)) r (now (symbols .exit)) ⌝ }
+{
+    numbers_of_page(store_pages::ask_page_list(soft, limit, threshold, symbols))
+}
+
+#[no_mangle]
+pub extern "C" fn entry_ask_page_whole_list(
+    soft: &[u8],
+    limit: u64,
+    threshold: i64,
+    symbols: &mut [u8],
+) -> PageReply
+    ensures { λ r. ⌜ PageReplied symbolBuffer (on threshold) whole (now (soft .entry)) limit (now (symbols .entry)) r (now (symbols .exit)) ⌝ }
+{
+    numbers_of_page(store_pages::ask_page_whole_list(soft, limit, threshold, symbols))
 }
 
 #[no_mangle]

@@ -25,6 +25,7 @@ use Rattle.paths.specs.Keys.{with-key}
 use Rattle.trellis.specs.Values.{branch, reading, doubt}
 use Rattle.trellis.specs.Order.{number, sum, zeroFirst, before}
 use Rattle.trellis.specs.Demand.{Search, whole, supercode}
+use Rattle.trellis.specs.TwoWords.{off}
 use Rattle.trellis.proofs.ZeroColumn.{zero-column-in-30-steps, zero-column-spent-below-30}
 use Rattle.store_searches.specs.Searches.{number as answerNumber, place, word, count, low, Allowed, outcomeAnswer}
 use Rattle.store_searches.proofs.Calls.{asked}
@@ -43,13 +44,13 @@ allowed-zeros limit i some most h = record { full = refl; level = h; some = some
 zeros-in-30-steps : (s : Search) → Holds (levels (zeroColumn s 30) 0 0 0 30 (λ i. pos (2 + 2 * i)))
 unfolding outcomeAnswer
 zeros-in-30-steps s i h =
-    let found = asked s i (replicate 30 0) 30 (allowed-zeros 30 i (lit≤ tt) (lit≤ tt) h) ∙ ap outcomeAnswer (zero-column-in-30-steps s i h 30 (lit≤ tt)) in
+    let found = asked off refl s i (replicate 30 0) 30 (allowed-zeros 30 i (lit≤ tt) (lit≤ tt) h) ∙ ap outcomeAnswer (zero-column-in-30-steps s i h 30 (lit≤ tt)) in
     (ap answerNumber found, ap place found, ap word found, ap count found, ap low found)
 
 zeros-spent-at-29 : (s : Search) → Holds (levels (zeroColumn s 29) 9 0 0 0 (λ i. pos 0))
 unfolding outcomeAnswer
 zeros-spent-at-29 s i h =
-    let refused = asked s i (replicate 30 0) 29 (allowed-zeros 29 i (lit≤ tt) (lit≤ tt) h) ∙ ap outcomeAnswer (zero-column-spent-below-30 s i h 29 (lit< tt)) in
+    let refused = asked off refl s i (replicate 30 0) 29 (allowed-zeros 29 i (lit≤ tt) (lit≤ tt) h) ∙ ap outcomeAnswer (zero-column-spent-below-30 s i h 29 (lit< tt)) in
     (ap answerNumber refused, ap place refused, ap word refused, ap count refused, ap low refused)
 
 pub known-values : AllHold cases

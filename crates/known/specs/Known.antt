@@ -16,6 +16,7 @@ use Rattle.paths.specs.Search.{SearchResult, answer, spent}
 use Rattle.trellis.specs.Values.{Values, values}
 use Rattle.trellis.specs.Order.{sum, before}
 use Rattle.trellis.specs.Demand.{Search, whole, supercode}
+use Rattle.trellis.specs.TwoWords.{off}
 use Rattle.trellis.specs.Trellis.{WordFound, searched}
 use Rattle.store_searches.specs.Searches.{Is, searchAnswer}
 use Rattle.store_searches.specs.declared.SearchAnswer.{SearchAnswer}
@@ -50,7 +51,7 @@ zeroWith z = record { column = 0; low = z }
 
 -- the call on the all-zero column
 abbrev pub zeroColumn : Search → ℕ → ℕ → SearchAnswer
-zeroColumn s limit i = searchAnswer s i (replicate 30 0) limit
+zeroColumn s limit i = searchAnswer off s i (replicate 30 0) limit
 
 -- three zeros that are the least sure, and a sure one
 abbrev pub unsure : List ℕ

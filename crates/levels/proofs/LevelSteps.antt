@@ -8,18 +8,19 @@ use lib.ListN.{length, length-map}
 use Rattle.column.specs.Shape.{short}
 use Rattle.paths.specs.Low.{lowest-from}
 use Rattle.trellis.specs.Values.{levelValues}
-use Rattle.trellis.specs.Demand.{Search as Kind}
 use Rattle.trellis.proofs.Short.{searchable}
 use Rattle.reedsolomon.specs.Search.{WordOf, OuterAnswer, Found, NoneInReach}
 use Rattle.reedsolomon.specs.Row.{Symbols, outerAnswer, wordOf, isFound, RowDecoded}
 use Rattle.concatenated.specs.Format.{shortRoots}
 use Rattle.concatenated.specs.SoftPage.{Soft}
 use Rattle.concatenated.specs.Decode.{Reading, symbol, symbols, mark, marks, lows, changed, rowOff, decodedRow}
-use Rattle.concatenated.specs.Readers.{shortReader}
 use Rattle.concatenated.specs.Flags.{flag, isOne}
 use Rattle.concatenated.specs.Marks.{markOf}
 use Rattle.concatenated.specs.Arrays.{SoftColumns}
-use Rattle.readings.specs.Steps.{RowRead}
+use Rattle.search.specs.Outcomes.{searchOf}
+use Rattle.list_of_two.specs.declared.Way.{Way}
+use Rattle.list_of_two.specs.Ways.{choiceOf}
+use Rattle.readings.specs.Steps.{wayReader, RowRead}
 use Rattle.concatenated.specs.OuterCode.{shortOuter}
 use Rattle.levels.specs.Levels.{Ended}
 use Rattle.levels.specs.declared.LevelOut.{LevelOut}
@@ -27,24 +28,25 @@ use Rattle.reedsolomon.proofs.Answers.{word-is-of-symbols}
 use Rattle.concatenated.proofs.Digits.{below-is-word}
 use Rattle.concatenated.proofs.Columns.{row-off-length, row-off-all}
 use Rattle.concatenated.proofs.TakingOff.{off-length, column-stays-soft}
-use Rattle.concatenated.proofs.Searches.{symbols-in-range}
+use Rattle.concatenated.proofs.Readings.{symbols-in-range, readers-read-words}
 use Rattle.concatenated.proofs.OuterJoint.{flags-back, outer-laws}
 
 -- a level's symbols and flags are as many as its columns
-pub read-long : (kind : Kind) (limit i : ℕ) (work : List (List ℕ)) (z₀ : ℤ) (xs ms : List ℕ) (n : ℕ) (z : ℤ) → length work ≡ 63 → RowRead i (map (shortReader kind limit i) work) z₀ xs ms n z
+pub read-long : (read : List ℕ → Reading) (i : ℕ) (work : List (List ℕ)) (z₀ : ℤ) (xs ms : List ℕ) (n : ℕ) (z : ℤ) → length work ≡ 63 → RowRead i (map read work) z₀ xs ms n z
     → (length xs ≡ 63) × (length ms ≡ 63)
-read-long kind limit i work z₀ xs ms n z e read =
-    let rs = map (shortReader kind limit i) work in
-    let long : length rs ≡ 63 = length-map work (shortReader kind limit i) ∙ e in (
-      ap length (read .symbols-are) ∙ length-map rs (symbol short i) ∙ long,
-      ap length (read .marks-are) ∙ length-map (marks rs) flag ∙ length-map rs mark ∙ long,
+read-long read i work z₀ xs ms n z e given =
+    let rs = map read work in
+    let long : length rs ≡ 63 = length-map work read ∙ e in (
+      ap length (given .symbols-are) ∙ length-map rs (symbol short i) ∙ long,
+      ap length (given .marks-are) ∙ length-map (marks rs) flag ∙ length-map rs mark ∙ long,
     )
 
 -- they are symbols
-pub read-symbols : (kind : Kind) (limit i : ℕ) → i < 4 → (work : List (List ℕ)) (z₀ : ℤ) (xs ms : List ℕ) (n : ℕ) (z : ℤ) → RowRead i (map (shortReader kind limit i) work) z₀ xs ms n z → Symbols 6 xs
-read-symbols kind limit i h work z₀ xs ms n z read =
-    let ys = symbols short i (map (shortReader kind limit i) work) in
-    subst⁻¹ (Symbols 6) (read .symbols-are) (word-is-of-symbols 6 (length ys) ys (below-is-word 64 ys (symbols-in-range short i (searchable i h) levelValues limit kind work)))
+pub read-symbols : (way : Way) (i : ℕ) → i < 4 → (work : List (List ℕ)) (z₀ : ℤ) (xs ms : List ℕ) (n : ℕ) (z : ℤ) → RowRead i (map (wayReader way i) work) z₀ xs ms n z → Symbols 6 xs
+read-symbols way i h work z₀ xs ms n z read =
+    let ys = symbols short i (map (wayReader way i) work) in
+    let reads = readers-read-words short i (searchable i h) levelValues (way .limit) (choiceOf way) (searchOf (way .«in_supercodes»)) in
+    subst⁻¹ (Symbols 6) (read .symbols-are) (word-is-of-symbols 6 (length ys) ys (below-is-word 64 ys (symbols-in-range short i (searchable i h) levelValues (way .limit) (wayReader way) reads work)))
 
 -- the row of a level is a word of 63 symbols
 pub row-is-a-word : (i : ℕ) → i < 4 → (rs : List Reading) → length rs ≡ 63 → (r : List ℕ) → decodedRow short shortOuter i rs ≡ Found r → WordOf 64 63 r

@@ -3,10 +3,10 @@ ghost use mathlib.Core.Path.{_≡_};
 ghost use Prim.Native.Nat.{_<_, _≤_};
 ghost use lib.ListN.{length};
 ghost use Rattle.stack.specs.Places.{Room};
-ghost use Rattle.concatenated.specs.Readers.{shortReader};
 ghost use Rattle.concatenated.specs.Arrays.{SoftColumns};
-ghost use Rattle.search.specs.Outcomes.{searchOf};
+ghost use Rattle.readings.specs.Steps.{wayReader};
 ghost use Rattle.levels.specs.Levels.{LevelDone, ColumnsDone};
+use list_of_two::Way;
 use softpage::rows;
 use softpage::sets;
 
@@ -30,15 +30,14 @@ pub enum ColumnsOutcome {
 fn decode_level(
     work: &mut [[u8; 30]; 63],
     level: usize,
-    limit: u64,
-    in_supercodes: bool,
+    way: Way,
     lowest: i16,
     sums: &mut [i16; 2002],
     lens: &mut [u8; 2002],
     bits: &mut [u64; 2002],
 ) -> LevelOut
-    requires { ⌜ (level < 4) × (limit ≤ 2000) × SoftColumns (now work) × Room (now sums) (now lens) (now bits) ⌝ }
-    ensures { λ r. ⌜ LevelDone (shortReader (searchOf in_supercodes) limit) level lowest (now (work .entry)) r (now (work .exit)) × (r .count ≤ 126000)
+    requires { ⌜ (level < 4) × (way .limit ≤ 2000) × SoftColumns (now work) × Room (now sums) (now lens) (now bits) ⌝ }
+    ensures { λ r. ⌜ LevelDone (wayReader way) level lowest (now (work .entry)) r (now (work .exit)) × (r .count ≤ 126000)
         × SoftColumns (now (work .exit)) × Room (now (sums .exit)) (now (lens .exit)) (now (bits .exit)) ⌝ }
 {
     let mut symbols = [0u8; 63];
@@ -46,8 +45,7 @@ fn decode_level(
     let read = readings::read_row(
         level,
         &*work,
-        limit,
-        in_supercodes,
+        way,
         lowest,
         sums,
         lens,
@@ -83,8 +81,7 @@ fn decode_level(
 // The levels of a page, on its columns; what the arrays hold after a refusal is not told.
 pub fn decode_columns(
     work: &mut [[u8; 30]; 63],
-    limit: u64,
-    in_supercodes: bool,
+    way: Way,
     sums: &mut [i16; 2002],
     lens: &mut [u8; 2002],
     bits: &mut [u64; 2002],
@@ -92,9 +89,9 @@ pub fn decode_columns(
     changed: &mut [u64; 4],
     erased: &mut [u64; 4],
 ) -> ColumnsOutcome
-    requires { ⌜ (limit ≤ 2000) × SoftColumns (now work) × Room (now sums) (now lens) (now bits)
+    requires { ⌜ (way .limit ≤ 2000) × SoftColumns (now work) × Room (now sums) (now lens) (now bits)
         × (length (now held) ≡ 4) × (length (now changed) ≡ 4) × (length (now erased) ≡ 4) ⌝ }
-    ensures { λ r. ⌜ ColumnsDone (shortReader (searchOf in_supercodes) limit) (now (work .entry)) r (now (held .exit)) (now (changed .exit)) (now (erased .exit)) ⌝ }
+    ensures { λ r. ⌜ ColumnsDone (wayReader way) (now (work .entry)) r (now (held .exit)) (now (changed .exit)) (now (erased .exit)) ⌝ }
 {
     let mut sum: u64 = 0;
     let mut low: i16 = search::NONE_TAKEN;
@@ -103,8 +100,7 @@ pub fn decode_columns(
         let out = decode_level(
             &mut *work,
             level,
-            limit,
-            in_supercodes,
+            way,
             low,
             &mut *sums,
             &mut *lens,

@@ -7,7 +7,13 @@ use lib.Bits.{bitXor}
 use lib.ListN.{length, take, drop, getD, length-take, length-drop}
 use lib.Seq.{getD-drop, getD-take}
 use Rattle.paths.specs.Search.{SearchResult}
+use Rattle.column.specs.Shape.{short}
+use Rattle.trellis.specs.Values.{levelValues}
+use Rattle.trellis.specs.Demand.{Search}
 use Rattle.trellis.specs.Trellis.{WordFound}
+use Rattle.trellis.specs.TwoWords.{Choice, searchedBy}
+use Rattle.list_of_two.specs.declared.Way.{Way}
+use Rattle.list_of_two.specs.Ways.{choiceOf}
 use Rattle.search.specs.Outcomes.{codeOutcome}
 use Rattle.search.specs.declared.SearchOutcome.{SearchOutcome}
 use Rattle.measured.specs.Folds.{folded, foldedColumns}
@@ -49,3 +55,8 @@ module _ (search : List ℕ → SearchResult WordFound) (soft : List ℕ) where
 
   pub all-folded : (a fold : ℕ) → a % 30 ≡ 0 → a ≤ length soft → length soft - a < 30 → Folded search soft a fold → fold ≡ foldedColumns search soft (length soft / 30)
   all-folded a fold whole within last f = let same : a / 30 ≡ length soft / 30 = omega arith in f .fold-so ∙ ap (foldedColumns search soft) same
+
+-- the searches in a way are those of the choice and limit that the way names
+pub folded-by-its-way : (way : Way) (choice : Choice) (limit : ℕ) → choiceOf way ≡ choice → way .limit ≡ limit → (s : Search) (soft : List ℕ) (i : ℕ)
+    → foldedColumns (λ c. searchedBy (choiceOf way) s short (levelValues i) (way .limit) c i) soft (length soft / 30) ≡ foldedColumns (λ c. searchedBy choice s short (levelValues i) limit c i) soft (length soft / 30)
+folded-by-its-way way choice limit same within s soft i = ap₂ (λ (x : Choice) (l : ℕ). foldedColumns (λ c. searchedBy x s short (levelValues i) l c i) soft (length soft / 30)) same within

@@ -8,9 +8,10 @@ use lib.ListN.{length, take, drop}
 use Rattle.column.specs.Shape.{short}
 use Rattle.paths.specs.Search.{SearchResult}
 use Rattle.trellis.specs.Values.{levelValues}
-use Rattle.trellis.specs.Demand.{Search, trellis}
+use Rattle.trellis.specs.Demand.{Search}
+use Rattle.trellis.specs.TwoWords.{Choice, thresholdAllowed, searchedBy}
 use Rattle.packing.specs.Packing.{sixteenBits}
-use Rattle.trellis.specs.Trellis.{WordFound, searched}
+use Rattle.trellis.specs.Trellis.{WordFound}
 use Rattle.search.specs.Outcomes.{codeOutcome, searchOf}
 use Rattle.search.specs.declared.SearchOutcome.{SearchOutcome}
 use Rattle.search.specs.declared.SearchOutcome.the-variants.{Found, Spent}
@@ -29,10 +30,11 @@ foldedColumns search soft (suc j) = bitXor (foldedColumns search soft j) (folded
 abbrev pub named : ℕ → Search
 named n = searchOf (not (eqb n 0))
 
--- 0 where the level, the limit or a value is out of range
-abbrev pub measuredAnswer : Search → ℕ → List ℕ → ℕ → ℕ
-measuredAnswer s level soft limit =
+-- 0 where the level, the limit, the threshold or a value is out of range
+abbrev pub measuredAnswer : Choice → Search → ℕ → List ℕ → ℕ → ℕ
+measuredAnswer choice s level soft limit =
     ask (ltb level 4) 0
     (ask (leb limit 2000) 0
+    (ask (thresholdAllowed choice) 0
     (ask (leb (length soft) (firstAbove soft 7)) 0
-    (foldedColumns (λ c. searched (trellis s short (levelValues level) c level) limit) soft (length soft / 30))))
+    (foldedColumns (λ c. searchedBy choice s short (levelValues level) limit c level) soft (length soft / 30)))))

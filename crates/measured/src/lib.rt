@@ -4,10 +4,12 @@ ghost use mathlib.Core.Path.{_≡_};
 ghost use lib.ListN.{length, getD};
 ghost use Rattle.column.specs.Shape.{short};
 ghost use Rattle.trellis.specs.Values.{levelValues};
-ghost use Rattle.trellis.specs.Demand.{Search, trellis};
-ghost use Rattle.trellis.specs.Trellis.{searched};
+ghost use Rattle.trellis.specs.Demand.{Search};
+ghost use Rattle.trellis.specs.TwoWords.{off, on, searchedBy};
 ghost use Rattle.search.specs.Outcomes.{TablesFor};
+ghost use Rattle.list_of_two.specs.Ways.{chosen, choiceOf};
 ghost use Rattle.measured.specs.Folds.{folded as foldedOf, foldedColumns, named, measuredAnswer};
+use list_of_two::Way;
 use search::SearchOutcome;
 
 // One search's answer as a number.
@@ -25,16 +27,18 @@ fn folded(found: SearchOutcome) -> u64
 // The answers of the columns of a buffer, 30 values each, as one number.
 fn search_all(
     soft: &[u8],
+    level: usize,
     left: &[u64; 30],
     right: &[u64; 30],
     values: &[i16; 16],
-    limit: u64,
+    way: Way,
 ) -> u64
-    requires { ⌜ limit ≤ 2000 ⌝ }
+    requires { ⌜ way .limit ≤ 2000 ⌝ }
+    requires { ⌜ level < 4 ⌝ }
     requires { ⌜ ((k : ℕ) → k < length (now soft) → getD (now soft) k 0 ≤ 7) ⌝ }
-    requires { ⌜ ((s : Search) × (i : ℕ) × (i < 4) × TablesFor s i (now left) (now right) (now values)) ⌝ }
-    ensures { λ r. ⌜ ((s : Search) (i : ℕ) → i < 4 → TablesFor s i (now (left .entry)) (now (right .entry)) (now (values .entry))
-        → r ≡ foldedColumns (λ c. searched (trellis s short (levelValues i) c i) limit) (now (soft .entry)) (length (now (soft .entry)) / 30)) ⌝ }
+    requires { ⌜ ((s : Search) × TablesFor s level (now left) (now right) (now values)) ⌝ }
+    ensures { λ r. ⌜ ((s : Search) → TablesFor s level (now (left .entry)) (now (right .entry)) (now (values .entry))
+        → r ≡ foldedColumns (λ c. searchedBy (choiceOf way) s short (levelValues level) (way .limit) c level) (now (soft .entry)) (length (now (soft .entry)) / 30)) ⌝ }
 {
     let mut sums = [0i16; 2002];
     let mut lens = [0u8; 2002];
@@ -43,15 +47,16 @@ fn search_all(
     let mut a: usize = 0;
     while 30 <= soft.len() - a {
         let e = a + 30;
-        let found = search::short_page::search_column(
+        let found = list_of_two::search_by(
             &mut sums,
             &mut lens,
             &mut bits,
             &soft[a..e],
+            level,
             left,
             right,
             values,
-            limit,
+            way,
         );
         fold = fold ^ folded(found);
         a = e;
@@ -59,15 +64,24 @@ fn search_all(
     fold
 }
 
-// The searches of a level with a limit: the whole search, or the supercode search where `supercode` is not 0; 0 where a question of the store would refuse.
-#[no_mangle]
-pub extern "C" fn measured_searches(level: u64, soft: &[u8], limit: u64, supercode: u64) -> u64
-    ensures { λ r. ⌜ r ≡ measuredAnswer (named supercode) level (now (soft .entry)) limit ⌝ }
+// The searches of a level with a limit: the whole search, or the supercode search where `supercode` is not 0, with list of two where `second` says so; 0 where a question of the store would refuse.
+fn measured_by(
+    level: u64,
+    soft: &[u8],
+    limit: u64,
+    supercode: u64,
+    second: bool,
+    threshold: i64,
+) -> u64
+    ensures { λ r. ⌜ r ≡ measuredAnswer (chosen second threshold) (named supercode) level (now (soft .entry)) limit ⌝ }
 {
     if 4 <= level {
         return 0;
     }
     if 2000 < limit {
+        return 0;
+    }
+    if !list_of_two::threshold_allowed(second, threshold) {
         return 0;
     }
     if questions::first_above(soft, 7) < soft.len() {
@@ -77,5 +91,26 @@ pub extern "C" fn measured_searches(level: u64, soft: &[u8], limit: u64, superco
     let left = tables.left;
     let right = tables.right;
     let values = tables.values;
-    search_all(soft, &left, &right, &values, limit)
+    let way = list_of_two::way_of(limit, supercode != 0, second, threshold);
+    search_all(soft, level as usize, &left, &right, &values, way)
+}
+
+#[no_mangle]
+pub extern "C" fn measured_searches(level: u64, soft: &[u8], limit: u64, supercode: u64) -> u64
+    ensures { λ r. ⌜ r ≡ measuredAnswer off (named supercode) level (now (soft .entry)) limit ⌝ }
+{
+    measured_by(level, soft, limit, supercode, false, 0)
+}
+
+#[no_mangle]
+pub extern "C" fn measured_list_searches(
+    level: u64,
+    soft: &[u8],
+    limit: u64,
+    supercode: u64,
+    threshold: i64,
+) -> u64
+    ensures { λ r. ⌜ r ≡ measuredAnswer (on threshold) (named supercode) level (now (soft .entry)) limit ⌝ }
+{
+    measured_by(level, soft, limit, supercode, true, threshold)
 }

@@ -8,16 +8,16 @@ ghost use Rattle.column.specs.Shape.{short};
 ghost use Rattle.concatenated.specs.Format.{shortPage};
 ghost use Rattle.concatenated.specs.SoftPage.{Soft, softColumns};
 ghost use Rattle.concatenated.specs.Decode.{decoded};
-ghost use Rattle.concatenated.specs.Readers.{shortReader};
 ghost use Rattle.concatenated.specs.Written.{writtenPage, writtenRows, bytesOfRows};
 ghost use Rattle.concatenated.specs.Symbols.{rowsIn, lowestNoWord};
-ghost use Rattle.search.specs.Outcomes.{searchOf};
+ghost use Rattle.readings.specs.Steps.{wayReader};
 ghost use Rattle.concatenated.specs.OuterCode.{shortOuter, shortEncoder, isShortCodeword};
 ghost use Rattle.reedsolomon.specs.Search.{WordOf};
 ghost use Rattle.page.specs.Outcomes.{refusedPage, outcomeOf, dataBuffer, filled, symbolBuffer};
 use coding::data;
 use coding::writing;
 use levels::ColumnsOutcome;
+use list_of_two::Way;
 use softpage::look;
 use softpage::sets;
 
@@ -86,11 +86,11 @@ pub fn encode_page(data: &[u8], out: &mut [u8])
     writing::write_columns(&rows, out);
 }
 
-// The outcome of a soft page, by the whole or the supercode search of each column, and its corrected symbols, row after row; they are written last, and only if there is an answer.
-pub fn ask_page(soft: &[u8], limit: u64, in_supercodes: bool, symbols: &mut [u8]) -> PageOutcome
-    requires { ⌜ (length (now soft) ≡ 1890) × Soft (now soft) × (limit ≤ 2000) × (length (now symbols) ≡ 252) ⌝ }
-    ensures { λ r. ⌜ r ≡ outcomeOf (decoded short shortOuter (shortReader (searchOf in_supercodes) limit) (softColumns shortPage (now (soft .entry)))) ⌝ }
-    ensures { λ r. ⌜ now (symbols .exit) ≡ filled symbolBuffer (now (symbols .entry)) (decoded short shortOuter (shortReader (searchOf in_supercodes) limit) (softColumns shortPage (now (soft .entry)))) ⌝ }
+// The outcome of a soft page, its columns searched in the given way, and its corrected symbols, row after row; they are written last, and only if there is an answer.
+pub fn ask_page(soft: &[u8], way: Way, symbols: &mut [u8]) -> PageOutcome
+    requires { ⌜ (length (now soft) ≡ 1890) × Soft (now soft) × (way .limit ≤ 2000) × (length (now symbols) ≡ 252) ⌝ }
+    ensures { λ r. ⌜ r ≡ outcomeOf (decoded short shortOuter (wayReader way) (softColumns shortPage (now (soft .entry)))) ⌝ }
+    ensures { λ r. ⌜ now (symbols .exit) ≡ filled symbolBuffer (now (symbols .entry)) (decoded short shortOuter (wayReader way) (softColumns shortPage (now (soft .entry)))) ⌝ }
 {
     let mut work = [[0u8; 30]; 63];
     look::load(soft, &mut work);
@@ -102,8 +102,7 @@ pub fn ask_page(soft: &[u8], limit: u64, in_supercodes: bool, symbols: &mut [u8]
     let mut erased = [0u64; 4];
     let outcome = levels::decode_columns(
         &mut work,
-        limit,
-        in_supercodes,
+        way,
         &mut sums,
         &mut lens,
         &mut bits,
@@ -159,13 +158,13 @@ pub fn pack(symbols: &[u8], data: &mut [u8])
 }
 
 // Asks for the symbols of a soft page and packs them: the data are written last, and only if there is an answer.
-pub fn decode_page(soft: &[u8], limit: u64, in_supercodes: bool, data: &mut [u8]) -> PageOutcome
-    requires { ⌜ (length (now soft) ≡ 1890) × Soft (now soft) × (limit ≤ 2000) × (length (now «data») ≡ 150) ⌝ }
-    ensures { λ r. ⌜ r ≡ outcomeOf (decoded short shortOuter (shortReader (searchOf in_supercodes) limit) (softColumns shortPage (now (soft .entry)))) ⌝ }
-    ensures { λ r. ⌜ now («data» .exit) ≡ filled dataBuffer (now («data» .entry)) (decoded short shortOuter (shortReader (searchOf in_supercodes) limit) (softColumns shortPage (now (soft .entry)))) ⌝ }
+pub fn decode_page(soft: &[u8], way: Way, data: &mut [u8]) -> PageOutcome
+    requires { ⌜ (length (now soft) ≡ 1890) × Soft (now soft) × (way .limit ≤ 2000) × (length (now «data») ≡ 150) ⌝ }
+    ensures { λ r. ⌜ r ≡ outcomeOf (decoded short shortOuter (wayReader way) (softColumns shortPage (now (soft .entry)))) ⌝ }
+    ensures { λ r. ⌜ now («data» .exit) ≡ filled dataBuffer (now («data» .entry)) (decoded short shortOuter (wayReader way) (softColumns shortPage (now (soft .entry)))) ⌝ }
 {
     let mut symbols = [0u8; 252];
-    let outcome = ask_page(soft, limit, in_supercodes, &mut symbols);
+    let outcome = ask_page(soft, way, &mut symbols);
     if outcome.number == 0 {
         pack(&symbols, data);
     }

@@ -34,3 +34,8 @@ is-false false h = refl
 
 pub not-both : (a : Bool) → a ≡ false → a ≡ true → ⊥
 not-both a e k = false≢true (sym e ∙ k)
+
+pub bool-ext : (a b : Bool) → (a ≡ true → b ≡ true) → (b ≡ true → a ≡ true) → a ≡ b
+bool-ext true b f g = sym (f refl)
+bool-ext false true f g = g refl
+bool-ext false false f g = refl

@@ -2,7 +2,7 @@
 use mathlib.Core.Bool.{Bool, true, false, cond, _&&_}
 use mathlib.Core.List.{List, [], _∷_, map}
 use mathlib.Core.Logic.{_⊎_, inl, inr}
-use mathlib.Core.Path.{_≡_, refl, sym, ap, _∙_, subst⁻¹}
+use mathlib.Core.Path.{_≡_, refl, sym, ap, _∙_, subst, subst⁻¹}
 use Prim.Native.Nat.{ℕ, zero, suc, _+_, _≤_, _<_}
 use native.Mathlib.Omega.{arith}
 use native.Mathlib.Nat.{zero-add, suc-add}
@@ -14,13 +14,13 @@ use lib.Signed.{_≤ℤ_}
 use Rattle.paths.specs.Paths.{Path}
 use Rattle.paths.specs.Stack.{Nodes, Sorted, insert, push, extend, grow}
 use Rattle.paths.specs.Tree.{Tree, is-full, nodes, Exists, Sound}
-use Rattle.paths.specs.Search.{answer, spent, start, take-head, step, steps, run}
+use Rattle.paths.specs.Search.{State, answer, spent, count, start, take-head, step, steps, after, run}
 use Rattle.paths.specs.Low.{lower}
 use Rattle.paths.specs.Keys.{WithLow, run-keys, stack-after, low-after, KeysOf, key-with-low, with-key}
 use Rattle.paths.proofs.Booleans.{is-false}
 use Rattle.paths.proofs.Lists.{of-map}
 use Rattle.paths.proofs.Stack.{grow-length}
-use Rattle.paths.proofs.Invariant.{Invariant, step-invariant, start-invariant}
+use Rattle.paths.proofs.Invariant.{Invariant, step-invariant, start-invariant, after-invariant}
 use Rattle.paths.proofs.Low.{LowSoFar, low-at-start, low-of-one-more, lowest-so-far-is-the-low-point}
 use Rattle.paths.proofs.Run.{answer-is-not-spent}
 
@@ -32,6 +32,30 @@ module _ {A : Type 0} (N : Nodes A) where
   stack-after-length zero stack = omega arith
   stack-after-length (suc k) [] = omega arith
   stack-after-length (suc k) (x ∷ rest) = omega (arith, stack-after-length k (grow N x rest), grow-length N x rest)
+
+  -- an empty stack stays, and so does the lowest sum
+  pub none-after : (k : ℕ) → stack-after N k [] ≡ []
+  unfolding stack-after
+  none-after zero = refl
+  none-after (suc k) = refl
+
+  low-after-none : (k : ℕ) (z : ℤ) → low-after N k z [] ≡ z
+  unfolding low-after
+  low-after-none zero z = refl
+  low-after-none (suc k) z = refl
+
+  -- a steps and then b
+  pub stack-after-both : (a b : ℕ) (stack : List A) → stack-after N b (stack-after N a stack) ≡ stack-after N (a + b) stack
+  unfolding stack-after
+  stack-after-both zero b stack = ap (λ (k : ℕ). stack-after N k stack) (sym (zero-add b))
+  stack-after-both (suc a) b [] = none-after b ∙ sym (none-after (suc a + b))
+  stack-after-both (suc a) b (x ∷ rest) = stack-after-both a b (grow N x rest) ∙ ap (λ (k : ℕ). stack-after N k (x ∷ rest)) (sym (suc-add a b))
+
+  pub low-after-both : (a b : ℕ) (z : ℤ) (stack : List A) → low-after N b (low-after N a z stack) (stack-after N a stack) ≡ low-after N (a + b) z stack
+  unfolding stack-after low-after
+  low-after-both zero b z stack = ap (λ (k : ℕ). low-after N k z stack) (sym (zero-add b))
+  low-after-both (suc a) b z [] = low-after-none b z ∙ sym (low-after-none (suc a + b) z)
+  low-after-both (suc a) b z (x ∷ rest) = low-after-both a b (lower z (N .sum x)) (grow N x rest) ∙ ap (λ (k : ℕ). low-after N k z (x ∷ rest)) (sym (suc-add a b))
 
   pub no-keys-left : (accept : A → Bool) (fuel c : ℕ) (z : ℤ) → run-keys N accept fuel c z [] ≡ spent c
   unfolding run-keys
@@ -155,14 +179,25 @@ module _ (t : Tree) {A : Type 0} (N : Nodes A) (key : Path → A) (keys : KeysOf
     stack-after-from : (k : ℕ) (taken stack : List Path) → Invariant t taken stack → map key (steps t k (record { taken = taken; stack = stack }) .stack) ≡ stack-after N k (map key stack)
     unfolding stack-after steps step take-head
     stack-after-from zero taken stack i = refl
-    stack-after-from (suc k) taken [] i = stack-after-from k taken [] i ∙ none k
-      where
-        none : (k : ℕ) → stack-after N k [] ≡ []
-        none zero = refl
-        none (suc k) = refl
+    stack-after-from (suc k) taken [] i = stack-after-from k taken [] i ∙ none-after N k
     stack-after-from (suc k) taken (p ∷ rest) i =
         stack-after-from k (p ∷ taken) (grow (nodes t) p rest) (step-invariant t sound (record { taken = taken; stack = p ∷ rest }) i)
         ∙ ap (stack-after N k) (grow-keys p rest (i .there p (inr (inl refl))))
+
+    -- the lowest sum kept after k steps is that of the paths taken
+    low-after-from : (z₀ : ℤ) (k : ℕ) (taken stack : List Path) (z : ℤ) → Invariant t taken stack → LowSoFar t z₀ taken z
+        → LowSoFar t z₀ (steps t k (record { taken = taken; stack = stack }) .taken) (low-after N k z (map key stack))
+    unfolding low-after steps step take-head
+    low-after-from z₀ zero taken stack z i so = so
+    low-after-from z₀ (suc k) taken [] z i so =
+        subst (λ (y : ℤ). LowSoFar t z₀ (steps t k (record { taken = taken; stack = [] }) .taken) y) (low-after-none N k z) (low-after-from z₀ k taken [] z i so)
+    low-after-from z₀ (suc k) taken (p ∷ rest) z i so =
+        subst⁻¹ (λ (y : ℤ). LowSoFar t z₀ (steps t k next .taken) y)
+        (ap (λ (s : ℤ). low-after N k (lower z s) (grow N (key p) (map key rest))) (keys .same-sum p) ∙ ap (low-after N k (lower z (t .sum p))) (sym (grow-keys p rest (i .there p (inr (inl refl))))))
+        (low-after-from z₀ k (p ∷ taken) (grow (nodes t) p rest) (lower z (t .sum p)) (step-invariant t sound (record { taken = taken; stack = p ∷ rest }) i) (low-of-one-more t z₀ taken p z so))
+      where
+        next : State
+        next = record { taken = p ∷ taken; stack = grow (nodes t) p rest }
 
     start-keys : map key (start t .stack) ≡ extend N (key []) []
     unfolding start
@@ -174,3 +209,14 @@ module _ (t : Tree) {A : Type 0} (N : Nodes A) (key : Path → A) (keys : KeysOf
     unfolding start
     search-on-keys-is-search-on-paths z₀ high accept limit =
         ap (run-keys N accept limit 0 z₀) (sym start-keys) ∙ run-keys-from z₀ high accept limit (start t .taken) (start t .stack) z₀ (start-invariant t sound) (low-at-start t z₀)
+
+    -- from the state after k steps
+    pub going-on-with-keys-is-going-on-with-paths : (z₀ : ℤ) → ((w : Path) → Exists t w → t .sum w ≤ℤ z₀) → (accept : A → Bool) (fuel k : ℕ)
+        → run-keys N accept fuel (count (after t k)) (low-after N k z₀ (extend N (key []) [])) (stack-after N k (extend N (key []) []))
+        ≡ with-key (key-with-low t key) (run t (λ p. accept (key p)) fuel (after t k))
+    unfolding start after
+    going-on-with-keys-is-going-on-with-paths z₀ high accept fuel k =
+        ap (run-keys N accept fuel (count (after t k)) (low-after N k z₀ (extend N (key []) []))) (sym (stack-after-from k (start t .taken) (start t .stack) (start-invariant t sound) ∙ ap (stack-after N k) start-keys))
+        ∙ run-keys-from z₀ high accept fuel (after t k .taken) (after t k .stack) (low-after N k z₀ (extend N (key []) [])) (after-invariant t sound k)
+        (subst (λ (stack : List A). LowSoFar t z₀ (after t k .taken) (low-after N k z₀ stack)) start-keys
+        (low-after-from z₀ k (start t .taken) (start t .stack) z₀ (start-invariant t sound) (low-at-start t z₀)))

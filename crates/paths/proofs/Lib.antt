@@ -18,3 +18,4 @@ pub mod Low
 pub mod Limit
 pub mod Dead
 pub mod Keys
+pub mod TwoWords

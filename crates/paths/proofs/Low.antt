@@ -77,6 +77,9 @@ unfolding lowest
 lowest-is [] h = absurd (omega arith)
 lowest-is (x ∷ xs) h = lowest-from-is x xs
 
+lowest-is-unique : (xs : List ℤ) (y z : ℤ) → Lowest xs y → Lowest xs z → y ≡ z
+lowest-is-unique xs y z low so = ≤ℤ-antisym y z (low .none-below z (so .is-one)) (so .none-below y (low .is-one))
+
 -- of two lists, one after the other
 pub lowest-from-append : (z : ℤ) (xs ys : List ℤ) → lowest-from z (xs ++ ys) ≡ lowest-from (lowest-from z xs) ys
 unfolding lowest-from
@@ -121,6 +124,17 @@ module _ (sum : Path → ℤ) (w : Path) (some : 0 < length w) where
 
   pub no-prefix-is-below-the-low-point : (r : Path) → Prefix r w → low-point sum w ≤ℤ sum r
   no-prefix-is-below-the-low-point r h = low-point-is-lowest sum w some .none-below (sum r) (in-map sum r (prefixes w) (prefix-in r w h))
+
+-- one bit, and one bit more
+pub low-point-of-one : (sum : Path → ℤ) (b : Bool) → low-point sum (b ∷ []) ≡ sum (b ∷ [])
+unfolding low-point prefixes lowest lowest-from
+low-point-of-one sum b = refl
+
+pub low-point-of-one-more : (sum : Path → ℤ) (b : Bool) (w : Path) → 0 < length w → low-point sum (b ∷ w) ≡ lower (low-point sum w) (sum (b ∷ w))
+unfolding prefixes
+low-point-of-one-more sum b w some =
+    lowest-is-unique (map sum (prefixes (b ∷ w))) (low-point sum (b ∷ w)) (lower (low-point sum w) (sum (b ∷ w))) (low-point-is-lowest sum (b ∷ w) (omega arith))
+    (lower-is-lowest (map sum (prefixes w)) (low-point sum w) (sum (b ∷ w)) (low-point-is-lowest sum w some))
 
 -- ---- of a search
 

@@ -7,3 +7,4 @@ pub mod Tree
 pub mod Search
 pub mod Dead
 pub mod Keys
+pub mod TwoWords

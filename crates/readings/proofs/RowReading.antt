@@ -1,8 +1,7 @@
 -- The reading of a level: a column's search as its reading, and the columns read so far. Assumes nothing.
 use mathlib.Core.List.{List, [], _∷_, _++_, map}
-use mathlib.Core.Path.{_≡_, refl, sym, ap, ap₂, _∙_, subst⁻¹}
+use mathlib.Core.Path.{_≡_, refl, sym, ap, ap₂, _∙_}
 use Prim.Native.Nat.{ℕ, _+_, _*_, _≤_, _<_}
-use native.Mathlib.Nat.{le-refl}
 use native.Mathlib.Numerals.{add-one}
 use native.Mathlib.Omega.{arith}
 use lib.IntN.{ℤ}
@@ -13,12 +12,12 @@ use Rattle.paths.specs.Search.{SearchResult, answer}
 use Rattle.paths.specs.Search
 use Rattle.paths.specs.Low.{lowest-from}
 use Rattle.trellis.specs.Values.{levelValues}
-use Rattle.trellis.specs.Demand.{Search as Kind, trellis}
-use Rattle.trellis.specs.Trellis.{WordFound, searched}
+use Rattle.trellis.specs.Demand.{Search as Kind}
+use Rattle.trellis.specs.Trellis.{WordFound}
+use Rattle.trellis.specs.TwoWords.{Choice, searchedBy}
 use Rattle.search.specs.Outcomes.{codeOutcome}
 use Rattle.search.specs.declared.SearchOutcome.{SearchOutcome}
 use Rattle.search.specs.declared.SearchOutcome.the-variants.{Found, Spent}
-use Rattle.trellis.proofs.Demand.{one-codeword-is-ahead-of-all}
 use Rattle.trellis.proofs.Short.{searchable}
 use Rattle.concatenated.specs.Lists.{sum}
 use Rattle.concatenated.specs.SoftPage.{Soft}
@@ -28,7 +27,8 @@ use Rattle.concatenated.specs.Flags.{flag}
 use Rattle.readings.specs.Steps.{asReading, WordInRange, RowRead}
 use Rattle.concatenated.proofs.Lists.{all-at, map-append}
 use Rattle.paths.proofs.Low.{lowest-from-append}
-use Rattle.concatenated.proofs.Searches.{found-is-a-word, found-is-ahead-of-all}
+use Rattle.concatenated.proofs.Readings.{ReadsWords, found-is-a-word, readers-read-words}
+use Rattle.concatenated.proofs.Readings
 use Rattle.concatenated.proofs.Lows.{lows-append}
 use Rattle.concatenated.proofs.Filling.{Front, front-none, front-more, front-all}
 use Rattle.column.proofs.Tabulated.{map-at}
@@ -38,27 +38,21 @@ unfolding codeOutcome readingOf
 by-code limit (answer w n) = refl
 by-code limit (Search.spent n) = refl
 
-module _ (kind : Kind) (limit i : ℕ) (h : i < 4) (c : List ℕ) where
-  module _ (r : SearchOutcome) (e : r ≡ codeOutcome (searched (trellis kind short (levelValues i) c i) limit)) where
-    -- the code's search is the reading
-    pub reads-it : asReading limit r ≡ shortReader kind limit i c
-    unfolding readerOf
-    reads-it = ap (asReading limit) e ∙ by-code limit (searched (trellis kind short (levelValues i) c i) limit)
+module _ (choice : Choice) (kind : Kind) (limit i : ℕ) (h : i < 4) (c : List ℕ) where
+  reads : ReadsWords short levelValues limit (shortReader choice kind limit) i
+  reads = readers-read-words short i (searchable i h) levelValues limit choice kind
 
-  pub word-in-range : (r : SearchOutcome) → r ≡ codeOutcome (searched (trellis kind short (levelValues i) c i) limit) → WordInRange r
-  word-in-range (Found w n z) e = found-is-a-word short i (searchable i h) levelValues limit c kind (record { column = w; low = z }) n (sym (reads-it (Found w n z) e)) .0
+  -- the code's search is the reading
+  pub reads-it : (r : SearchOutcome) → r ≡ codeOutcome (searchedBy choice kind short (levelValues i) limit c i) → asReading limit r ≡ shortReader choice kind limit i c
+  unfolding readerOf
+  reads-it r e = ap (asReading limit) e ∙ by-code limit (searchedBy choice kind short (levelValues i) limit c i)
+
+  pub word-in-range : (r : SearchOutcome) → r ≡ codeOutcome (searchedBy choice kind short (levelValues i) limit c i) → WordInRange r
+  word-in-range (Found w n z) e = found-is-a-word short i (searchable i h) levelValues limit (shortReader choice kind limit) reads c (record { column = w; low = z }) n (sym (reads-it (Found w n z) e)) .0
   word-in-range Spent e = tt
 
-  pub count-within-the-limit : count (shortReader kind limit i c) ≤ limit
-  unfolding readerOf readingOf count
-  count-within-the-limit = go (searched (trellis kind short (levelValues i) c i) limit) refl
-    where
-      go : (o : SearchResult WordFound) → searched (trellis kind short (levelValues i) c i) limit ≡ o → count (shortReader kind limit i c) ≤ limit
-      go (answer w n) e =
-          let best = one-codeword-is-ahead-of-all short i (searchable i h) (levelValues i) c in
-          let told = found-is-ahead-of-all short i (searchable i h) levelValues limit c kind (best .0) (best .1) w n (ap (readingOf limit) e) in
-          subst⁻¹ (λ (o : SearchResult WordFound). count (readingOf limit o) ≤ limit) e (omega (arith, told .1, told .2))
-      go (Search.spent n) e = subst⁻¹ (λ (o : SearchResult WordFound). count (readingOf limit o) ≤ limit) e (le-refl limit)
+  pub count-within-the-limit : count (shortReader choice kind limit i c) ≤ limit
+  count-within-the-limit = Readings.count-within-the-limit short i (searchable i h) levelValues limit (shortReader choice kind limit) reads c
 
 -- a column of the page as the search takes it
 pub soft-column : (c : List ℕ) → (length c ≡ 30) × Soft c → (k : ℕ) → k < 30 → getD c k 0 ≤ 7

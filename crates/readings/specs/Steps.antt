@@ -7,8 +7,16 @@ use Rattle.column.specs.Shape.{short}
 use Rattle.paths.specs.Low.{lowest-from}
 use Rattle.search.specs.declared.SearchOutcome.{SearchOutcome}
 use Rattle.search.specs.declared.SearchOutcome.the-variants.{Found, Spent}
-use Rattle.concatenated.specs.Decode.{Reading, found, spent, symbols, marks, lows, steps}
+use Rattle.search.specs.Outcomes.{searchOf}
+use Rattle.list_of_two.specs.declared.Way.{Way}
+use Rattle.list_of_two.specs.Ways.{choiceOf}
+use Rattle.concatenated.specs.Decode.{Reading, found, spent, Reader, symbols, marks, lows, steps}
+use Rattle.concatenated.specs.Readers.{shortReader}
 use Rattle.concatenated.specs.Flags.{flag}
+
+-- the reader of columns that a way to search them names
+abbrev pub wayReader : Way → Reader
+wayReader w = shortReader (choiceOf w) (searchOf (w .«in_supercodes»)) (w .limit)
 
 -- what the code's search gives, as a reading: 01: "a spent column counting the limit"
 abbrev pub asReading : ℕ → SearchOutcome → Reading

@@ -5,13 +5,12 @@ ghost use Prim.Native.Nat.{_<_, _≤_};
 ghost use lib.ListN.{length};
 ghost use Rattle.column.specs.Shape.{short};
 ghost use Rattle.stack.specs.Places.{Room};
-ghost use Rattle.search.specs.Outcomes.{searchOf};
 ghost use Rattle.paths.specs.Low.{lowest-from};
 ghost use Rattle.concatenated.specs.Decode.{symbol, mark, count, lows};
-ghost use Rattle.concatenated.specs.Readers.{shortReader};
 ghost use Rattle.concatenated.specs.Flags.{flag};
 ghost use Rattle.concatenated.specs.Arrays.{SoftColumns};
-ghost use Rattle.readings.specs.Steps.{asReading, WordInRange, RowRead};
+ghost use Rattle.readings.specs.Steps.{asReading, wayReader, WordInRange, RowRead};
+use list_of_two::Way;
 use search::SearchOutcome;
 
 pub struct Entry {
@@ -53,8 +52,7 @@ fn enter(level: usize, limit: u64, lowest: i16, found: SearchOutcome) -> Entry
 pub fn read_row(
     level: usize,
     work: &[[u8; 30]; 63],
-    limit: u64,
-    in_supercodes: bool,
+    way: Way,
     lowest: i16,
     sums: &mut [i16; 2002],
     lens: &mut [u8; 2002],
@@ -62,11 +60,11 @@ pub fn read_row(
     symbols: &mut [u8; 63],
     marks: &mut [u8; 63],
 ) -> RowTotals
-    requires { ⌜ (level < 4) × (limit ≤ 2000) × SoftColumns (now work) × Room (now sums) (now lens) (now bits) × (length (now symbols) ≡ 63) × (length (now marks) ≡ 63) ⌝ }
-    ensures { λ r. ⌜ RowRead level (map (shortReader (searchOf in_supercodes) limit level) (now (work .entry))) lowest (now (symbols .exit)) (now (marks .exit)) (r .steps) (r .low)
+    requires { ⌜ (level < 4) × (way .limit ≤ 2000) × SoftColumns (now work) × Room (now sums) (now lens) (now bits) × (length (now symbols) ≡ 63) × (length (now marks) ≡ 63) ⌝ }
+    ensures { λ r. ⌜ RowRead level (map (wayReader way level) (now (work .entry))) lowest (now (symbols .exit)) (now (marks .exit)) (r .steps) (r .low)
         × Room (now (sums .exit)) (now (lens .exit)) (now (bits .exit)) ⌝ }
 {
-    let tables = search::short_page::tables_of(level, in_supercodes);
+    let tables = search::short_page::tables_of(level, way.in_supercodes);
     let left = tables.left;
     let right = tables.right;
     let values = tables.values;
@@ -75,17 +73,18 @@ pub fn read_row(
     let mut j: usize = 0;
     while j < 63 {
         let column = work[j];
-        let found = search::short_page::search_column(
+        let found = list_of_two::search_by(
             &mut *sums,
             &mut *lens,
             &mut *bits,
             &column,
+            level,
             &left,
             &right,
             &values,
-            limit,
+            way,
         );
-        let e = enter(level, limit, low, found);
+        let e = enter(level, way.limit, low, found);
         symbols[j] = e.symbol;
         marks[j] = e.mark;
         sum += e.count;

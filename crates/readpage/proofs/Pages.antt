@@ -8,6 +8,7 @@ use borrow.Author.Tests.{eq-eqb}
 use lib.Dec.{leb}
 use lib.ListN.{length}
 use Rattle.trellis.specs.Demand.{Search}
+use Rattle.trellis.specs.TwoWords.{off}
 use Rattle.concatenated.specs.Decode.{PageAnswer, answered, refused}
 use Rattle.page.specs.Outcomes.{outcomeOf, dataBuffer, filled}
 use Rattle.page.specs.declared.PageOutcome.{PageOutcome}
@@ -35,19 +36,19 @@ answered-text old (refused l) none = absurd (omega (arith, none))
 -- a call with nothing to refuse before page decoding
 module _ (s : Search) (soft old new : List ℕ) (r : PageOutcome) (decoded : PageDecoded s soft defaultLimit old r new)
     (long : length soft ≡ 1890) (room : length old ≡ 150) (five : leb 1890 (firstAbove soft 7) ≡ true) where
-  outcome : r ≡ outcomeOf (decodedPage s soft defaultLimit)
+  outcome : r ≡ outcomeOf (decodedPage off s soft defaultLimit)
   outcome = decoded .answer ∙ simp (eq-eqb _ _ long, eq-eqb _ _ room, five)
 
-  bytes : new ≡ filled dataBuffer old (decodedPage s soft defaultLimit)
+  bytes : new ≡ filled dataBuffer old (decodedPage off s soft defaultLimit)
   bytes = decoded .bytes ∙ simp (eq-eqb _ _ long, eq-eqb _ _ room, five)
 
-  pub text-of-refused : (r .number ≡ 0 → ⊥) → refusedLine (r .number) (r .place) ≡ decodedText (decodedPage s soft defaultLimit)
+  pub text-of-refused : (r .number ≡ 0 → ⊥) → refusedLine (r .number) (r .place) ≡ decodedText (decodedPage off s soft defaultLimit)
   text-of-refused some =
       ap (λ (o : PageOutcome). refusedLine (o .number) (o .place)) outcome
-      ∙ refused-text (decodedPage s soft defaultLimit) (λ none. some (ap (λ (o : PageOutcome). o .number) outcome ∙ none))
+      ∙ refused-text (decodedPage off s soft defaultLimit) (λ none. some (ap (λ (o : PageOutcome). o .number) outcome ∙ none))
 
-  pub text-of-answered : r .number ≡ 0 → reportText (r .report) new ≡ decodedText (decodedPage s soft defaultLimit)
+  pub text-of-answered : r .number ≡ 0 → reportText (r .report) new ≡ decodedText (decodedPage off s soft defaultLimit)
   text-of-answered none =
       ap (λ (o : PageOutcome). reportText (o .report) new) outcome
-      ∙ ap (reportText (outcomeOf (decodedPage s soft defaultLimit) .report)) bytes
-      ∙ answered-text old (decodedPage s soft defaultLimit) (ap (λ (o : PageOutcome). o .number) (sym outcome) ∙ none)
+      ∙ ap (reportText (outcomeOf (decodedPage off s soft defaultLimit) .report)) bytes
+      ∙ answered-text old (decodedPage off s soft defaultLimit) (ap (λ (o : PageOutcome). o .number) (sym outcome) ∙ none)

@@ -9,6 +9,7 @@ use lib.ListN.{length, replicate}
 use lib.Seq.{length-take-le}
 use Rattle.io.specs.Counts.{Counts}
 use Rattle.trellis.specs.Demand.{supercode}
+use Rattle.trellis.specs.TwoWords.{off}
 use Rattle.dump.specs.Dump.{softOf}
 use Rattle.questions.specs.Outcome.{after, Filled}
 use Rattle.store_dumps.specs.Dumps.{readAnswer}
@@ -40,14 +41,14 @@ counted {r} {new = new} p room =
     (inside, sym (length-take-le r new inside))
 
 pub output-read : (dump new : List ℕ) (r : Outcome) → Filled (readAnswer dump (replicate 1890 0)) (softOf dump) (replicate 1890 0) r new → r ≡ Done
-    → decodedText (decodedPage supercode new defaultLimit) ≡ outputOf dump
+    → decodedText (decodedPage off supercode new defaultLimit) ≡ outputOf dump
 unfolding outputOf
 output-read dump new r filled done =
-    ap (λ (l : List ℕ). decodedText (decodedPage supercode l defaultLimit)) (soft-read filled done)
-    ∙ ap (λ (o : Outcome). readText o (decodedText (decodedPage supercode (softOf dump) defaultLimit))) (sym done ∙ filled .answer)
+    ap (λ (l : List ℕ). decodedText (decodedPage off supercode l defaultLimit)) (soft-read filled done)
+    ∙ ap (λ (o : Outcome). readText o (decodedText (decodedPage off supercode (softOf dump) defaultLimit))) (sym done ∙ filled .answer)
 
 pub output-refused : (dump new : List ℕ) (r : Outcome) (n p : ℕ) → Filled (readAnswer dump (replicate 1890 0)) (softOf dump) (replicate 1890 0) r new → r ≡ Refused n p
     → refusedLine n p ≡ outputOf dump
 unfolding outputOf
 output-refused dump new r n p filled refused =
-    ap (λ (o : Outcome). readText o (decodedText (decodedPage supercode (softOf dump) defaultLimit))) (sym refused ∙ filled .answer)
+    ap (λ (o : Outcome). readText o (decodedText (decodedPage off supercode (softOf dump) defaultLimit))) (sym refused ∙ filled .answer)

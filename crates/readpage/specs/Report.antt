@@ -4,6 +4,7 @@ use Prim.Native.Nat.{ℕ}
 use lib.ListN.{replicate}
 use Rattle.dump.specs.Dump.{softOf}
 use Rattle.trellis.specs.Demand.{supercode}
+use Rattle.trellis.specs.TwoWords.{off}
 use Rattle.concatenated.specs.Format.{shortPage}
 use Rattle.concatenated.specs.Decode.{rows, PageAnswer, answered, refused}
 use Rattle.concatenated.specs.Written.{bytesOfRows}
@@ -27,4 +28,4 @@ readText (Refused n p) text = refusedLine n p
 
 -- "Its decoding and the program use the supercode search"; 02, point 9: with the default limit
 unfoldable pub outputOf : List ℕ → List ℕ
-outputOf dump = readText (readAnswer dump (replicate 1890 0)) (decodedText (decodedPage supercode (softOf dump) defaultLimit))
+outputOf dump = readText (readAnswer dump (replicate 1890 0)) (decodedText (decodedPage off supercode (softOf dump) defaultLimit))

@@ -7,6 +7,7 @@ ghost use lib.Dec.{leb};
 ghost use lib.ListN.{length, take};
 ghost use Rattle.io.specs.Counts.{Counts};
 ghost use Rattle.trellis.specs.Demand.{supercode};
+ghost use Rattle.trellis.specs.TwoWords.{off};
 ghost use Rattle.questions.specs.Questions.{firstAbove};
 ghost use Rattle.store_pages.specs.Pages.{decodedPage, defaultLimit};
 ghost use Rattle.listing.specs.Text.{Appended};
@@ -20,7 +21,7 @@ use store_pages::DEFAULT_LIMIT;
 // The lines of a soft page, each value 0..7.
 fn page_text(soft: &[u8], out: &mut [u8]) -> usize
     requires { ⌜ (length (now soft) ≡ 1890) × (leb 1890 (firstAbove (now soft) 7) ≡ true) × (813 ≤ length (now out)) ⌝ }
-    ensures { λ r. ⌜ Appended 0 (decodedText (decodedPage supercode (now (soft .entry)) defaultLimit)) 813 (now (out .entry)) r (now (out .exit)) ⌝ }
+    ensures { λ r. ⌜ Appended 0 (decodedText (decodedPage off supercode (now (soft .entry)) defaultLimit)) 813 (now (out .entry)) r (now (out .exit)) ⌝ }
 {
     let mut data = [0u8; 150];
     let page = store_pages::decode_page(soft, DEFAULT_LIMIT, &mut data);

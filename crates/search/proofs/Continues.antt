@@ -4,7 +4,7 @@ use native.Mathlib.Omega.{arith}
 use mathlib.Core.Bool.{Bool, true, false, cond, _&&_}
 use mathlib.Core.List.{List, [], _∷_}
 use mathlib.Core.Logic.{_⊎_, inl, inr}
-use mathlib.Core.Path.{_≡_, refl, sym, ap, _∙_, subst, subst⁻¹}
+use mathlib.Core.Path.{_≡_, refl, sym, ap, ap₂, _∙_, subst, subst⁻¹}
 use lib.Dec.{eqb, ltb}
 use lib.IntN.{ℤ, pos, _+ℤ_}
 use lib.ListN.{getD, List·getD-eq-default}
@@ -15,7 +15,7 @@ use mir.Facts.{toZ-ofZ}
 use Rattle.paths.specs.Stack.{Nodes, extend, grow}
 use Rattle.paths.specs.Low.{lower}
 use Rattle.paths.specs.Search.{SearchResult, answer}
-use Rattle.paths.specs.Keys.{WithLow, run-keys}
+use Rattle.paths.specs.Keys.{WithLow, run-keys, stack-after, low-after}
 use Rattle.heap.specs.Heap.{weigh}
 use Rattle.heap.specs.Holds.{weighList, Holds}
 use Rattle.trellis.specs.Values.{Values}
@@ -26,7 +26,7 @@ use Rattle.extension.specs.Steps.{TableOf, Given, tableExtension, tableNodes, A
 use Rattle.search.specs.Progress.{Standing, Going, Answered, Ended, Reached}
 use Rattle.search.specs.Outcomes.{outcomeOf}
 use Rattle.search.specs.declared.SearchOutcome.the-variants.{Found, Spent}
-use Rattle.paths.proofs.Keys.{no-keys-left}
+use Rattle.paths.proofs.Keys.{no-keys-left, stack-after-both, low-after-both}
 use Rattle.extension.proofs.Advances.{good-none}
 
 plus-one : (c : ℕ) → suc c ≡ c + 1
@@ -46,7 +46,9 @@ module _ (n : ℕ) (table : List ℤ) (soft left right : List ℕ) (limit : ℕ)
   N = tableNodes n table soft left right
 
   pub going-start : (f : ℕ → Key) (c m : ℕ) (p : Key) (z : ℤ) (xs : List Key) → Holds Upto f m xs → Going N n limit f c p z xs m c p z
+  unfolding stack-after low-after
   going-start f c m p z xs h =
+      let none : 0 ≡ c - c = omega arith in
       record {
         rest = xs;
         holds = h;
@@ -54,6 +56,8 @@ module _ (n : ℕ) (table : List ℤ) (soft left right : List ℕ) (limit : ℕ)
         within = inr refl;
         partial = inr refl;
         same = λ accept fuel. let e : fuel + (c - c) ≡ fuel = omega arith in ap (λ (k : ℕ). run-keys N accept k c z (grow N p xs)) e;
+        stack = ap (λ (k : ℕ). stack-after N k (grow N p xs)) none;
+        low-is = ap (λ (k : ℕ). low-after N k z (grow N p xs)) none;
       }
 
   module _ (f f′ : ℕ → Key) (m m′ c : ℕ) (p y : Key) (d : Advanced N n f f′ m m′ p y) (st : Standing n f m c p) where
@@ -94,6 +98,21 @@ module _ (n : ℕ) (table : List ℤ) (soft left right : List ℕ) (limit : ℕ)
         let k : fuel + (suc c - c₀) ≡ suc fuel + (c - c₀) = omega (arith, g .later) in
         ap (λ (i : ℕ). run-keys N accept i c₀ z₀ (grow N p₀ xs)) k ∙ g .same accept (suc fuel) ∙ ap (run-keys N accept (suc fuel) c z) (e .1)
 
+    one-more : c - c₀ + 1 ≡ suc c - c₀
+    one-more = omega (arith, g .later)
+
+    -- its stack
+    stack-step : (e : Took) → grow N y (e .0) ≡ stack-after N (suc c - c₀) (grow N p₀ xs)
+    unfolding stack-after
+    stack-step e =
+        ap (stack-after N 1) (sym (e .1) ∙ g .stack) ∙ stack-after-both N (c - c₀) 1 (grow N p₀ xs) ∙ ap (λ (k : ℕ). stack-after N k (grow N p₀ xs)) one-more
+
+    -- and its lowest sum
+    low-step : (e : Took) → low ≡ low-after N (suc c - c₀) z₀ (grow N p₀ xs)
+    unfolding low-after
+    low-step e =
+        ap₂ (low-after N 1) (g .low-is) (sym (e .1) ∙ g .stack) ∙ low-after-both N (c - c₀) 1 z₀ (grow N p₀ xs) ∙ ap (λ (k : ℕ). low-after N k z₀ (grow N p₀ xs)) one-more
+
     pub answered : (y .len ≡ 0 → ⊥) → y .len ≡ n → Answered N n limit f′ c₀ p₀ z₀ xs m′ (c + 1) y low
     answered ne full =
         let e = took ne in
@@ -105,6 +124,8 @@ module _ (n : ℕ) (table : List ℤ) (soft left right : List ℕ) (limit : ℕ)
           within = omega arith;
           full = full;
           same = λ accept fuel. run-step e accept fuel ∙ ap (step accept fuel (e .0)) (eq-eqb (y .len) n full);
+          stack = stack-step e;
+          low-is = low-step e;
         })
 
     pub going-next : (y .len ≡ 0 → ⊥) → (y .len ≡ n → ⊥) → Going N n limit f′ c₀ p₀ z₀ xs m′ (c + 1) y low
@@ -118,6 +139,8 @@ module _ (n : ℕ) (table : List ℤ) (soft left right : List ℕ) (limit : ℕ)
           within = inl (omega arith);
           partial = inl (omega (arith, d .good .short, nf));
           same = λ accept fuel. run-step e accept fuel ∙ ap (step accept fuel (e .0)) (ne-eqb (y .len) n nf);
+          stack = stack-step e;
+          low-is = low-step e;
         })
 
 -- ---- the table's nodes are the specification's
@@ -147,6 +170,17 @@ goes-on M n limit limit′ f f′ c₀ p₀ z₀ xs m c p z m′ c′ p′ z′ 
         let e : fuel + (c′ - c₀) ≡ fuel + (c′ - c) + (c - c₀) = omega (arith, g .later) in
         ap (λ (k : ℕ). run-keys M accept k c₀ z₀ (grow M p₀ xs)) e ∙ g .same accept (fuel + (c′ - c))
 
+    steps : c ≤ c′ → c - c₀ + (c′ - c) ≡ c′ - c₀
+    steps later = omega (arith, g .later)
+
+    stack : c ≤ c′ → (l : List Key) → l ≡ stack-after M (c′ - c) (grow M p (g .rest)) → l ≡ stack-after M (c′ - c₀) (grow M p₀ xs)
+    stack later l e =
+        e ∙ ap (stack-after M (c′ - c)) (g .stack) ∙ stack-after-both M (c - c₀) (c′ - c) (grow M p₀ xs) ∙ ap (λ (k : ℕ). stack-after M k (grow M p₀ xs)) (steps later)
+
+    low : c ≤ c′ → z′ ≡ low-after M (c′ - c) z (grow M p (g .rest)) → z′ ≡ low-after M (c′ - c₀) z₀ (grow M p₀ xs)
+    low later e =
+        e ∙ ap₂ (low-after M (c′ - c)) (g .low-is) (g .stack) ∙ low-after-both M (c - c₀) (c′ - c) z₀ (grow M p₀ xs) ∙ ap (λ (k : ℕ). low-after M k z₀ (grow M p₀ xs)) (steps later)
+
     within : (c ≤ limit) ⊎ (c ≡ c₀) → (c′ ≤ limit′) ⊎ (c′ ≡ c) → (c′ ≤ limit′) ⊎ (c′ ≡ c₀)
     within a (inl b) = inl b
     within (inl a) (inr b) = inl (omega arith)
@@ -169,6 +203,8 @@ goes-on M n limit limit′ f f′ c₀ p₀ z₀ xs m c p z m′ c′ p′ z′ 
             within = within (g .within) (a .within);
             partial = partial (g .partial) (a .partial);
             same = λ accept fuel. run (a .later) accept fuel ∙ a .same accept fuel;
+            stack = stack (a .later) _ (a .stack);
+            low-is = low (a .later) (a .low-is);
           },
         ))
     go (inr (inl a)) =
@@ -179,6 +215,8 @@ goes-on M n limit limit′ f f′ c₀ p₀ z₀ xs m c p z m′ c′ p′ z′ 
           within = a .within;
           full = a .full;
           same = λ accept fuel. run (omega (arith, a .later)) accept fuel ∙ a .same accept fuel;
+          stack = stack (omega (arith, a .later)) _ (a .stack);
+          low-is = low (omega (arith, a .later)) (a .low-is);
         }))
     go (inr (inr a)) =
         inr (inr (record {
@@ -214,6 +252,11 @@ reached-by n soft left right table vs g t limit f c₀ s l b z xs m c y z′ hs 
     (subst (λ (i : ℤ). Reached (tableNodes n table soft left right) n limit f c₀ (key i l b) z xs m c y z′) (toZ-ofZ hs)
     (subst (λ (i : ℤ). Reached (tableNodes n table soft left right) n limit f c₀ (key (toZ w16 (ofZ w16 s)) l b) i xs m c y z′) (toZ-ofZ hz) r))
 
+-- the empty path's extensions are the stack before a path is taken
+pub start-grows : (n : ℕ) (vs : Values) (soft left right : List ℕ) → 0 < n → grow (keyNodes n vs soft left right) (key (pos 0) 0 0) [] ≡ extend (keyNodes n vs soft left right) (key (pos 0) 0 0) []
+unfolding grow
+start-grows n vs soft left right some = rw (ne-eqb 0 n (omega arith)) refl
+
 module _ (n limit : ℕ) (vs : Values) (soft left right : List ℕ) (f : ℕ → Key) (m c : ℕ) (y : Key) (z : ℤ) (some : 0 < n)
     (r : Reached (keyNodes n vs soft left right) n limit f 0 (key (pos 0) 0 0) noneTaken [] m c y z) where
   abbrev K : Nodes Key
@@ -230,21 +273,28 @@ module _ (n limit : ℕ) (vs : Values) (soft left right : List ℕ) (f : ℕ →
 
   -- the search is the run from its start, in two parts
   search-is : (fuel : ℕ) → limit ≡ fuel + (c - 0) → keySearch n vs soft left right limit ≡ run-keys K always (fuel + (c - 0)) 0 noneTaken (grow K (key (pos 0) 0 0) [])
-  unfolding keySearch grow
-  search-is fuel e = rw (ne-eqb 0 n (omega arith)) (ap (λ (k : ℕ). run-keys K always k 0 noneTaken (extend K (key (pos 0) 0 0) [])) e)
+  unfolding keySearch
+  search-is fuel e = ap₂ (λ (k : ℕ). run-keys K always k 0 noneTaken) e (sym (start-grows n vs soft left right some))
 
   not-yet : (y .len < n) ⊎ (y ≡ key (pos 0) 0 0) → y .len ≡ n → ⊥
   not-yet (inl h) e = omega arith
   not-yet (inr h) e = omega (arith, ap (λ (k : Key). k .len) h)
 
+  -- the last path taken is a word
+  pub word-is-taken : y .len ≡ n → Answered K n limit f 0 (key (pos 0) 0 0) noneTaken [] m c y z
+  word-is-taken full = go (r .way)
+    where
+      go : Ways → Answered K n limit f 0 (key (pos 0) 0 0) noneTaken [] m c y z
+      go (inl g) = absurd (not-yet (g .1 .partial) full)
+      go (inr (inl a)) = a
+      go (inr (inr e)) = absurd (omega (arith, e .none))
+
+  pub answer-is : y .len ≡ n → keySearch n vs soft left right limit ≡ answer (record { key = y; low = z }) c
+  answer-is full = let a = word-is-taken full in search-is (limit - c) (omega (arith, a .within)) ∙ a .same always (limit - c)
+
   pub found-is : y .len ≡ n → Found (y .bits) c z ≡ outcomeOf (keySearch n vs soft left right limit)
   unfolding outcomeOf
-  found-is full = go (r .way)
-    where
-      go : Ways → Found (y .bits) c z ≡ outcomeOf (keySearch n vs soft left right limit)
-      go (inl g) = absurd (not-yet (g .1 .partial) full)
-      go (inr (inl a)) = sym (ap outcomeOf (search-is (limit - c) (omega (arith, a .within)) ∙ a .same always (limit - c)))
-      go (inr (inr e)) = absurd (omega (arith, e .none))
+  found-is full = sym (ap outcomeOf (answer-is full))
 
   pub spent-is : (y .len ≡ n → ⊥) → Spent ≡ outcomeOf (keySearch n vs soft left right limit)
   unfolding outcomeOf run-keys

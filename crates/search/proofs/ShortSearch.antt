@@ -20,7 +20,7 @@ use Rattle.extension.specs.Steps.{ZeroOrOdd, Given, TableOf}
 use Rattle.search.specs.Outcomes.{outcomeOf, codeOutcome, TablesFor, Searchable30}
 use Rattle.search.specs.declared.SearchOutcome.{SearchOutcome}
 use Rattle.trellis.proofs.Sums.{level-values-near}
-use Rattle.trellis.proofs.Keys.{by-bits, key-search-is-the-search, few-bits-are-not-above}
+use Rattle.trellis.proofs.Keys.{by-bits, key-search-is-the-search, NotAbove, few-bits-are-not-above}
 use Rattle.trellis.proofs.Short.{searchable}
 use Rattle.search.proofs.Tables.{table-of, table-length, table-near}
 
@@ -39,17 +39,25 @@ given-short soft left right table s =
       near = s .near;
     }
 
-by-number : (o : SearchResult (WithLow Key)) → outcomeOf o ≡ codeOutcome (by-bits o)
+pub by-number : (o : SearchResult (WithLow Key)) → outcomeOf o ≡ codeOutcome (by-bits o)
 unfolding outcomeOf codeOutcome
 by-number (answer k c) = refl
 by-number (spent c) = refl
 
+-- the table of a level is one of its values
+pub level-table : (s : Search) (i : ℕ) (left right : List ℕ) (table : List ℤ) → TablesFor s i left right table → TableOf (levelValues i) table
+level-table s i left right table tables = subst⁻¹ (TableOf (levelValues i)) (tables .values) (table-of (levelValues i))
+
+-- no sum of a column is above what the search begins with
+pub level-not-above : (i : ℕ) → i < 4 → (soft : List ℕ) → NotAbove 30 (levelValues i) soft
+level-not-above i h soft = few-bits-are-not-above 30 60 (levelValues i) soft (level-values-near i h) (lit≤ tt)
+
 pub search-short : (s : Search) (i : ℕ) → i < 4 → (soft left right : List ℕ) (table : List ℤ) → TablesFor s i left right table → (limit : ℕ) (r : SearchOutcome)
     → ((vs : Values) → TableOf vs table → r ≡ outcomeOf (keySearch 30 vs soft left right limit)) → r ≡ codeOutcome (searched (trellis s short (levelValues i) soft i) limit)
 search-short s i h soft left right table tables limit r e =
-    e (levelValues i) (subst⁻¹ (TableOf (levelValues i)) (tables .values) (table-of (levelValues i)))
+    e (levelValues i) (level-table s i left right table tables)
     ∙ by-number (keySearch 30 (levelValues i) soft left right limit)
-    ∙ ap codeOutcome (key-search-is-the-search short i (searchable i h) (levelValues i) soft left right s (tables .masks) (few-bits-are-not-above 30 60 (levelValues i) soft (level-values-near i h) (lit≤ tt)) limit)
+    ∙ ap codeOutcome (key-search-is-the-search short i (searchable i h) (levelValues i) soft left right s (tables .masks) (level-not-above i h soft) limit)
 
 masks-odd : (C : Code) (masks : List ℕ) → ((t : ℕ) → (maskOf 30 C (suc t) ≡ 0) ⊎ (maskOf 30 C (suc t) % 2 ≡ 1)) → MasksOf 30 C masks → (k : ℕ) → k < 30 → ZeroOrOdd (getD masks k 0)
 masks-odd C masks odd of k h = subst ZeroOrOdd (sym (of k h)) (odd k)

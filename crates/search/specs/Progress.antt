@@ -7,7 +7,7 @@ use Prim.Native.Nat.{ℕ, _+_, _-_, _≤_, _<_}
 use lib.IntN.{ℤ}
 use Rattle.paths.specs.Stack.{Nodes, grow}
 use Rattle.paths.specs.Search.{answer, spent}
-use Rattle.paths.specs.Keys.{run-keys}
+use Rattle.paths.specs.Keys.{run-keys, stack-after, low-after}
 use Rattle.heap.specs.Heap.{Every, Heap}
 use Rattle.heap.specs.Holds.{Holds}
 use Rattle.trellis.specs.Keys.{Key}
@@ -31,6 +31,10 @@ module _ (N : Nodes Key) (size limit : ℕ) (f : ℕ → Key) (c : ℕ) (p : Key
     pub within : (c′ ≤ limit) ⊎ (c′ ≡ c)
     pub partial : (p′ .len < size) ⊎ (p′ ≡ p)
     pub same : (accept : Key → Bool) (fuel : ℕ) → run-keys N accept (fuel + (c′ - c)) c z (grow N p xs) ≡ run-keys N accept fuel c′ z′ (grow N p′ rest)
+    -- the stack with the extensions of p′ is that after so many steps
+    pub stack : grow N p′ rest ≡ stack-after N (c′ - c) (grow N p xs)
+    -- z′ is the lowest sum after so many steps
+    pub low-is : z′ ≡ low-after N (c′ - c) z (grow N p xs)
 
   -- p′ is a word, the first taken: every run that accepts it answers it, and every other goes on from there
   pub record Answered : Type 0 where
@@ -40,6 +44,10 @@ module _ (N : Nodes Key) (size limit : ℕ) (f : ℕ → Key) (c : ℕ) (p : Key
     pub within : c′ ≤ limit
     pub full : p′ .len ≡ size
     pub same : (accept : Key → Bool) (fuel : ℕ) → run-keys N accept (fuel + (c′ - c)) c z (grow N p xs) ≡ cond (accept p′) (answer (record { key = p′; low = z′ }) c′) (run-keys N accept fuel c′ z′ (grow N p′ rest))
+    -- the stack with the extensions of p′ is that after so many steps
+    pub stack : grow N p′ rest ≡ stack-after N (c′ - c) (grow N p xs)
+    -- z′ is the lowest sum after so many steps
+    pub low-is : z′ ≡ low-after N (c′ - c) z (grow N p xs)
 
   -- the stack is empty: every run ends there
   pub record Ended : Type 0 where

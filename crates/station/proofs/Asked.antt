@@ -7,6 +7,7 @@ use native.Mathlib.Omega.{arith}
 use borrow.Author.Tests.{eq-eqb, eqb-true}
 use lib.Dec.{eqb}
 use lib.ListN.{length}
+use Rattle.trellis.specs.TwoWords.{Choice}
 use Rattle.page.specs.Outcomes.{Buffer}
 use Rattle.questions.specs.Questions.{ask}
 use Rattle.store_pages.specs.Pages.{askPage}
@@ -36,8 +37,8 @@ module _ (soft report : List ℕ) (n : ℕ) (e : n ≡ ownLengths (length soft) 
       go true true e = refl
 
   -- or the number is that of the first no; one output of another length is 2, whatever the other has
-  pub first-no : (n ≡ 0 → ⊥) → (B : Buffer) (limit : ℕ) (buffer : List ℕ) (A : Type 0) (refusal : ℕ → ℕ → A) (next : A) → askPage soft limit (haveRoom B buffer report) refusal next ≡ refusal n 0
-  first-no other B limit buffer A refusal next = go (eqb (length soft) 1890) (eqb (length report) 78) (eqb (length buffer) (B .places)) _ e
+  pub first-no : (n ≡ 0 → ⊥) → (B : Buffer) (choice : Choice) (limit : ℕ) (buffer : List ℕ) (A : Type 0) (refusal : ℕ → ℕ → A) (next : A) → askPage choice soft limit (haveRoom B buffer report) refusal next ≡ refusal n 0
+  first-no other B choice limit buffer A refusal next = go (eqb (length soft) 1890) (eqb (length report) 78) (eqb (length buffer) (B .places)) _ e
     where
       go : (a b c : Bool) (rest : A) → n ≡ ask a 1 (ask b 2 0) → ask a (refusal 1 0) (ask (c && b) (refusal 2 0) rest) ≡ refusal n 0
       go false b c rest e = ap (λ (k : ℕ). refusal k 0) (sym e)

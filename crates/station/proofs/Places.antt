@@ -10,6 +10,7 @@ use Rattle.dump.specs.Block.{fixedRight, checkRight}
 use Rattle.dump.specs.Dump.{blockAt, softOf}
 use Rattle.column.specs.Shape.{Shape, levels}
 use Rattle.trellis.specs.Demand.{Search}
+use Rattle.trellis.specs.TwoWords.{Choice}
 use Rattle.reedsolomon.specs.Search.{OuterAnswer, Found, NoneInReach}
 use Rattle.concatenated.specs.Outer.{RowDecoder}
 use Rattle.concatenated.specs.Decode.{Reader, Reading, Level, State, going, stopped, decodedRow, settle, onward, run, outcome, decoded}
@@ -96,5 +97,5 @@ module _ (S : Shape) (outer : RowDecoder) (read : Reader) (page : List (List ℕ
   unfolding decoded
   decoded-small few = outcome-small (levels S) few (run S outer read page (levels S)) (run-below (levels S))
 
-pub page-small : (s : Search) (soft : List ℕ) (limit : ℕ) (room : Bool) → SmallPage (askPage soft limit room refusedPage (outcomeOf (decodedPage s soft limit)))
-page-small s soft limit room = every-way soft limit room SmallPage refusedPage (outcomeOf (decodedPage s soft limit)) (λ n p some few near. (omega (arith, few), near)) (λ most. decoded-small _ _ _ _ (omega arith))
+pub page-small : (choice : Choice) (s : Search) (soft : List ℕ) (limit : ℕ) (room : Bool) → SmallPage (askPage choice soft limit room refusedPage (outcomeOf (decodedPage choice s soft limit)))
+page-small choice s soft limit room = every-way choice soft limit room SmallPage refusedPage (outcomeOf (decodedPage choice s soft limit)) (λ n p some few near. (omega (arith, few), near)) (λ most. decoded-small _ _ _ _ (omega arith))

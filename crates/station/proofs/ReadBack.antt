@@ -9,6 +9,7 @@ use lib.ListN.{length, length-drop, getD, take, drop}
 use lib.Seq.{take-at, take-append-le, drop-append-le}
 use lib.Signed.{mag}
 use Rattle.trellis.specs.Demand.{supercode}
+use Rattle.trellis.specs.TwoWords.{Choice}
 use Rattle.packing.specs.Packing.{joined, sixteenBits, signedOf}
 use Rattle.packing.proofs.Signed.{signed-back, sixteen-bits-few}
 use Rattle.concatenated.specs.Data.{digits}
@@ -30,16 +31,16 @@ use Rattle.station.proofs.Steps.{steps-are-few}
 abbrev ReportMarked : PageOutcome → Type 0
 ReportMarked o = Marked (o .report)
 
-answer-is-marked : (B : Buffer) (soft : List ℕ) (limit : ℕ) (buffer report : List ℕ) → ReportMarked (pageAnswer B soft limit buffer report)
-answer-is-marked B soft limit buffer report =
-    every-way soft limit (haveRoom B buffer report) ReportMarked refusedPage (outcomeOf (decodedPage supercode soft limit)) (λ n p some few near. refusals-are-marked)
-    (λ most. answers-are-marked supercode soft limit (decodedPage supercode soft limit) refl)
+answer-is-marked : (B : Buffer) (choice : Choice) (soft : List ℕ) (limit : ℕ) (buffer report : List ℕ) → ReportMarked (pageAnswer B choice soft limit buffer report)
+answer-is-marked B choice soft limit buffer report =
+    every-way choice soft limit (haveRoom B buffer report) ReportMarked refusedPage (outcomeOf (decodedPage choice supercode soft limit)) (λ n p some few near. refusals-are-marked)
+    (λ most. answers-are-marked choice supercode soft limit (decodedPage choice supercode soft limit) refl)
 
 -- the low point has 16 bits
-answer-is-near : (B : Buffer) (soft : List ℕ) (limit : ℕ) (buffer report : List ℕ) → mag (pageAnswer B soft limit buffer report .report .low) < 32768
-answer-is-near B soft limit buffer report =
-    every-way soft limit (haveRoom B buffer report) (λ (o : PageOutcome). mag (o .report .low) < 32768) refusedPage (outcomeOf (decodedPage supercode soft limit)) (λ n p some few near. omega arith)
-    (λ most. omega (arith, mag-le (outcomeOf (decodedPage supercode soft limit) .report .low), answers-are-near supercode soft limit (decodedPage supercode soft limit) refl))
+answer-is-near : (B : Buffer) (choice : Choice) (soft : List ℕ) (limit : ℕ) (buffer report : List ℕ) → mag (pageAnswer B choice soft limit buffer report .report .low) < 32768
+answer-is-near B choice soft limit buffer report =
+    every-way choice soft limit (haveRoom B buffer report) (λ (o : PageOutcome). mag (o .report .low) < 32768) refusedPage (outcomeOf (decodedPage choice supercode soft limit)) (λ n p some few near. omega arith)
+    (λ most. omega (arith, mag-le (outcomeOf (decodedPage choice supercode soft limit) .report .low), answers-are-near choice supercode soft limit (decodedPage choice supercode soft limit) refl))
 
 totals-in : (r : Report) (level : ℕ) → level < 4 → (changedTotalIn (reportBytes r) level ≡ getD (r .changed) level 0) × (erasedTotalIn (reportBytes r) level ≡ getD (r .erased) level 0)
 unfolding digits
@@ -76,10 +77,10 @@ bytes-hold r few marked near =
     }
 
 -- the entry returned 0: the report that it left holds that of the page
-pub report-is-read-back : (B : Buffer) (soft : List ℕ) (limit : ℕ) (buffer report : List ℕ) (r : ℕ) (newBuffer newReport : List ℕ)
-    → PageReturned B soft limit buffer report r newBuffer newReport → r ≡ 0 → Holds newReport (pageAnswer B soft limit buffer report .report)
-report-is-read-back B soft limit buffer report r newBuffer newReport returned done =
-    let d = pageAnswer B soft limit buffer report in
+pub report-is-read-back : (B : Buffer) (choice : Choice) (soft : List ℕ) (limit : ℕ) (buffer report : List ℕ) (r : ℕ) (newBuffer newReport : List ℕ)
+    → PageReturned B choice soft limit buffer report r newBuffer newReport → r ≡ 0 → Holds newReport (pageAnswer B choice soft limit buffer report .report)
+report-is-read-back B choice soft limit buffer report r newBuffer newReport returned done =
+    let d = pageAnswer B choice soft limit buffer report in
     let answered : d .number ≡ 0 = omega (arith, returned .answer, done) in
     let is : newReport ≡ reportBytes (d .report) = returned .report-is ∙ simp (eq-eqb _ _ answered) in
-    subst⁻¹ (λ (x : List ℕ). Holds x (d .report)) is (bytes-hold (d .report) (omega (arith, steps-are-few B soft limit buffer report .1)) (answer-is-marked B soft limit buffer report) (answer-is-near B soft limit buffer report))
+    subst⁻¹ (λ (x : List ℕ). Holds x (d .report)) is (bytes-hold (d .report) (omega (arith, steps-are-few B choice soft limit buffer report .1)) (answer-is-marked B choice soft limit buffer report) (answer-is-near B choice soft limit buffer report))

@@ -6,6 +6,7 @@ use native.Mathlib.Omega.{arith}
 use lib.ListN.{length}
 use Rattle.column.specs.Shape.{Shape, levels, short}
 use Rattle.trellis.specs.Demand.{supercode}
+use Rattle.trellis.specs.TwoWords.{Choice}
 use Rattle.concatenated.specs.Lists.{sum}
 use Rattle.concatenated.specs.Format.{shortPage}
 use Rattle.concatenated.specs.SoftPage.{softColumns}
@@ -68,9 +69,9 @@ abbrev pub FewSteps : ℕ → PageOutcome → Type 0
 FewSteps limit o = (o .report .steps ≤ 252 * limit) × (o .report .steps ≤ 504000)
 
 -- 01: "all counts summed, a spent column counting the limit": 63 columns at four levels, the limit each
-pub steps-are-few : (B : Buffer) (soft : List ℕ) (limit : ℕ) (buffer report : List ℕ) → FewSteps limit (pageAnswer B soft limit buffer report)
-steps-are-few B soft limit buffer report =
-    every-way soft limit (haveRoom B buffer report) (FewSteps limit) refusedPage (outcomeOf (decodedPage supercode soft limit)) (λ n p some few near. (omega arith, omega arith)) (λ most.
-    let few : outcomeOf (decodedPage supercode soft limit) .report .steps ≤ 252 * limit =
-    decoded-within short shortOuter (shortReader supercode limit) limit (λ i c h. count-within-the-limit supercode limit i h c) (softColumns shortPage soft) (omega (arith, as-many-columns shortPage soft)) (omega arith)
+pub steps-are-few : (B : Buffer) (choice : Choice) (soft : List ℕ) (limit : ℕ) (buffer report : List ℕ) → FewSteps limit (pageAnswer B choice soft limit buffer report)
+steps-are-few B choice soft limit buffer report =
+    every-way choice soft limit (haveRoom B buffer report) (FewSteps limit) refusedPage (outcomeOf (decodedPage choice supercode soft limit)) (λ n p some few near. (omega arith, omega arith)) (λ most.
+    let few : outcomeOf (decodedPage choice supercode soft limit) .report .steps ≤ 252 * limit =
+    decoded-within short shortOuter (shortReader choice supercode limit) limit (λ i c h. count-within-the-limit choice supercode limit i h c) (softColumns shortPage soft) (omega (arith, as-many-columns shortPage soft)) (omega arith)
     in (few, omega (arith, few, most)))

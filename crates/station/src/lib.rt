@@ -1,4 +1,4 @@
-// The station's C interface: 01, "The station's interface", and 02, points 7 and 9. Seven entries on byte slices, thin over the public calls; c/station.h declares them.
+// The station's C interface: 01, "The station's interface", and 02, points 1, 7 and 9. Eight entries on byte slices, thin over the public calls; c/station.h declares them.
 // Each returns number + 256 · place, 0 for success, and a refused one changes no byte that it was lent.
 ghost use mathlib.Core.List.{_++_};
 ghost use mathlib.Core.Path.{_≡_};
@@ -14,7 +14,7 @@ ghost use Rattle.store_dumps.specs.Dumps.{readAnswer};
 ghost use Rattle.questions.specs.Outcome.{number, place};
 ghost use Rattle.station.specs.Returned.{returned, Returned};
 ghost use Rattle.station.specs.Report.{markBytes, stepsAndTotals, lowBytes};
-ghost use Rattle.station.specs.PageReturned.{ownLengths, reportAfter, PageDecodedForC, PageAskedForC};
+ghost use Rattle.station.specs.PageReturned.{ownLengths, reportAfter, PageDecodedForC, PageAskedForC, ListDecodedForC};
 ghost use Rattle.store_pages.specs.Committing.{commitAnswer, heldBytes};
 use page::PageOutcome;
 use page::Report;
@@ -173,6 +173,27 @@ pub extern "C" fn station_decode_page(soft: &[u8], data: &mut [u8], report: &mut
     ensures { λ r. ⌜ PageDecodedForC (now (soft .entry)) defaultLimit (now («data» .entry)) (now (report .entry)) r (now («data» .exit)) (now (report .exit)) ⌝ }
 {
     station_decode_page_limit(soft, DEFAULT_LIMIT, data, report)
+}
+
+// `station_decode_page_limit` with list of two and its threshold. Refused by 1, 2, 4, 11, 5 and 10.
+#[no_mangle]
+pub extern "C" fn station_decode_page_list(
+    soft: &[u8],
+    limit: u64,
+    threshold: i64,
+    data: &mut [u8],
+    report: &mut [u8],
+) -> u64
+    ensures { λ r. ⌜ ListDecodedForC threshold (now (soft .entry)) limit (now («data» .entry)) (now (report .entry)) r (now («data» .exit)) (now (report .exit)) ⌝ }
+{
+    let bad = lengths_asked(soft.len(), report.len());
+    if bad != 0 {
+        return returned_number(bad, 0);
+    }
+    returned_page(
+        store_pages::decode_page_list(soft, limit, threshold, data),
+        report,
+    )
 }
 
 // Asks what `station_decode_page_limit` would give: the report or refusal, and in place of the data the 252 corrected symbols, row after row. Refused by 1, 2, 4, 5 and 10.

@@ -8,6 +8,7 @@ use borrow.Author.Tests.{eq-eqb}
 use lib.Dec.{eqb}
 use lib.ListN.{length, getD}
 use Rattle.trellis.specs.Demand.{Search}
+use Rattle.trellis.specs.TwoWords.{Choice}
 use Rattle.concatenated.specs.Format.{shortPage}
 use Rattle.concatenated.specs.SoftPage.{softColumns}
 use Rattle.concatenated.specs.Decode.{PageAnswer, answered, refused, rows}
@@ -24,34 +25,34 @@ use Rattle.page.specs.declared.PageOutcome.{PageOutcome}
 use Rattle.questions.specs.Outcome.{after}
 use Rattle.questions.specs.declared.Outcome.{Outcome}
 use Rattle.questions.specs.declared.Outcome.the-variants.{Done, Refused}
-use Rattle.store_pages.specs.Pages.{askPage, decodedPage, PageFilled, PageDecoded, PageAsked}
+use Rattle.store_pages.specs.Pages.{askPage, decodedPage, PageFilled}
 use Rattle.store_pages.specs.Committing.{heldBytes, Committed, FourWords}
 use Rattle.store_pages.proofs.Asked.{settled, Numbered, refusals-are-numbered}
 use Rattle.store_pages.proofs.Committing.{commit-accepts-exactly}
 
-module _ (s : Search) (soft : List ℕ) (limit : ℕ) where
+module _ (choice : Choice) (s : Search) (soft : List ℕ) (limit : ℕ) where
   -- two calls whose buffers have their places are asked and answered alike: "asking gives one decode's report or refusal", number, place and all fields
   pub asking-gives-one-decodes-report : (oldSymbols oldData : List ℕ) (asked decoded : PageOutcome) (newSymbols newData : List ℕ) → length oldSymbols ≡ 252 → length oldData ≡ 150
-      → PageAsked s soft limit oldSymbols asked newSymbols → PageDecoded s soft limit oldData decoded newData → asked ≡ decoded
+      → PageFilled symbolBuffer choice s soft limit oldSymbols asked newSymbols → PageFilled dataBuffer choice s soft limit oldData decoded newData → asked ≡ decoded
   asking-gives-one-decodes-report oldSymbols oldData asked decoded newSymbols newData full room ask decode =
-      ask .answer ∙ ap (λ (b : Bool). askPage soft limit b refusedPage (outcomeOf (decodedPage s soft limit))) (eq-eqb _ _ full ∙ sym (eq-eqb _ _ room)) ∙ sym (decode .answer)
+      ask .answer ∙ ap (λ (b : Bool). askPage choice soft limit b refusedPage (outcomeOf (decodedPage choice s soft limit))) (eq-eqb _ _ full ∙ sym (eq-eqb _ _ room)) ∙ sym (decode .answer)
 
   -- a call that answers gives what the page's answer makes
-  answered-call : (B : Buffer) (old : List ℕ) (r : PageOutcome) (new : List ℕ) → PageFilled B s soft limit old r new → r .number ≡ 0
-      → (r ≡ outcomeOf (decodedPage s soft limit)) × (new ≡ filled B old (decodedPage s soft limit))
-  answered-call B old r new call done = go (askPage soft limit room Refused Done) refl (refusals-are-numbered soft limit room)
+  answered-call : (B : Buffer) (old : List ℕ) (r : PageOutcome) (new : List ℕ) → PageFilled B choice s soft limit old r new → r .number ≡ 0
+      → (r ≡ outcomeOf (decodedPage choice s soft limit)) × (new ≡ filled B old (decodedPage choice s soft limit))
+  answered-call B old r new call done = go (askPage choice soft limit room Refused Done) refl (refusals-are-numbered choice soft limit room)
     where
       room : Bool
       room = eqb (length old) (B .places)
 
-      go : (o : Outcome) → o ≡ askPage soft limit room Refused Done → Numbered soft limit room o → (r ≡ outcomeOf (decodedPage s soft limit)) × (new ≡ filled B old (decodedPage s soft limit))
-      go Done e h = (call .answer ∙ settled soft limit room refusedPage _ Done e, call .bytes ∙ settled soft limit room (λ n p. old) _ Done e)
+      go : (o : Outcome) → o ≡ askPage choice soft limit room Refused Done → Numbered choice soft limit room o → (r ≡ outcomeOf (decodedPage choice s soft limit)) × (new ≡ filled B old (decodedPage choice s soft limit))
+      go Done e h = (call .answer ∙ settled choice soft limit room refusedPage _ Done e, call .bytes ∙ settled choice soft limit room (λ n p. old) _ Done e)
       go (Refused n p) e h =
-          let number : r .number ≡ n = ap (λ (x : PageOutcome). x .number) (call .answer ∙ settled soft limit room refusedPage _ (Refused n p) e) in
+          let number : r .number ≡ n = ap (λ (x : PageOutcome). x .number) (call .answer ∙ settled choice soft limit room refusedPage _ (Refused n p) e) in
           absurd (omega (arith, number, done, h))
 
   -- the symbols that an answer filled in are words in all four rows
-  filled-in-words : (old symbols : List ℕ) (d : PageAnswer) → decodedPage s soft limit ≡ d → outcomeOf d .number ≡ 0 → symbols ≡ filled symbolBuffer old d → (i : ℕ) → i < 4 → ShortCodeword i (rowIn shortPage symbols i)
+  filled-in-words : (old symbols : List ℕ) (d : PageAnswer) → decodedPage choice s soft limit ≡ d → outcomeOf d .number ≡ 0 → symbols ≡ filled symbolBuffer old d → (i : ℕ) → i < 4 → ShortCodeword i (rowIn shortPage symbols i)
   unfolding outcomeOf filled
   filled-in-words old symbols (refused l) e z is i h = absurd (omega (arith, z))
   filled-in-words old symbols (answered ls n) e z is i h =
@@ -64,10 +65,10 @@ module _ (s : Search) (soft : List ℕ) (limit : ℕ) where
   -- "committing the filled buffer unaltered writes that decode's bytes"
   pub committing-what-was-asked-writes-the-decoded-bytes : (oldSymbols oldData kept : List ℕ) (asked decoded : PageOutcome) (committed : Outcome) (newSymbols newData written : List ℕ)
       → length oldSymbols ≡ 252 → length oldData ≡ 150 → length kept ≡ 150
-      → PageAsked s soft limit oldSymbols asked newSymbols → asked .number ≡ 0 → PageDecoded s soft limit oldData decoded newData → Committed newSymbols kept committed written
+      → PageFilled symbolBuffer choice s soft limit oldSymbols asked newSymbols → asked .number ≡ 0 → PageFilled dataBuffer choice s soft limit oldData decoded newData → Committed newSymbols kept committed written
       → (committed ≡ Done) × (written ≡ newData)
   committing-what-was-asked-writes-the-decoded-bytes oldSymbols oldData kept asked decoded committed newSymbols newData written full room has-room ask done decode commit =
-      let D = decodedPage s soft limit in
+      let D = decodedPage choice s soft limit in
       let a = answered-call symbolBuffer oldSymbols asked newSymbols ask done in
       let same = asking-gives-one-decodes-report oldSymbols oldData asked decoded newSymbols newData full room ask decode in
       let b = answered-call dataBuffer oldData decoded newData decode (ap (λ (x : PageOutcome). x .number) (sym same) ∙ done) in

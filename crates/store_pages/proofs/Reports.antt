@@ -11,6 +11,7 @@ use lib.ListN.{length, length-map, getD, getD-replicate, replicate}
 use Rattle.column.specs.Shape.{short}
 use Rattle.column.proofs.Tabulated.{map-at}
 use Rattle.trellis.specs.Demand.{Search}
+use Rattle.trellis.specs.TwoWords.{Choice}
 use Rattle.concatenated.specs.Flags.{flag}
 use Rattle.concatenated.specs.Format.{shortPage}
 use Rattle.concatenated.specs.SoftPage.{softColumns}
@@ -54,14 +55,14 @@ one-is-in : (b : Bool) → flag b ≡ 1 → b ≡ true
 one-is-in true e = refl
 one-is-in false e = absurd (omega (arith, e))
 
-module _ (s : Search) (soft : List ℕ) (limit : ℕ) where
+module _ (choice : Choice) (s : Search) (soft : List ℕ) (limit : ℕ) where
   -- an answered page: four levels with sets of 63 columns, and the marks of its report are theirs
-  module _ (ls : List Level) (n : ℕ) (e : decodedPage s soft limit ≡ answered ls n) where
+  module _ (ls : List Level) (n : ℕ) (e : decodedPage choice s soft limit ≡ answered ls n) where
     four-levels : length ls ≡ 4
-    four-levels = answer-is-of-levels short shortOuter (shortReader s limit) (softColumns shortPage soft) ls n e .as-many
+    four-levels = answer-is-of-levels short shortOuter (shortReader choice s limit) (softColumns shortPage soft) ls n e .as-many
 
-    sets : (i : ℕ) → i < 4 → LevelSets shortPage shortOuter shortEncoder ShortCodeword outer-laws (shortReader s limit) (softColumns shortPage soft) (as-many-columns shortPage soft) (getD ls i noLevel)
-    sets i h = sets-of-levels shortPage shortOuter shortEncoder ShortCodeword outer-laws (shortReader s limit) (softColumns shortPage soft) (as-many-columns shortPage soft) ls n e i h noLevel
+    sets : (i : ℕ) → i < 4 → LevelSets shortPage shortOuter shortEncoder ShortCodeword outer-laws (shortReader choice s limit) (softColumns shortPage soft) (as-many-columns shortPage soft) (getD ls i noLevel)
+    sets i h = sets-of-levels shortPage shortOuter shortEncoder ShortCodeword outer-laws (shortReader choice s limit) (softColumns shortPage soft) (as-many-columns shortPage soft) ls n e i h noLevel
 
     module _ (f : Level → List Bool) where
       mark : (i : ℕ) (d : Level) → i < 4 → getD (map (λ l. markOf (f l)) ls) i 0 ≡ markOf (f (getD ls i d))
@@ -88,60 +89,60 @@ module _ (s : Search) (soft : List ℕ) (limit : ℕ) where
               bit (λ l. l .changed) i j noLevel h ∙ ap flag (sets i h .apart j (one-is-in _ (sym (bit (λ l. l .erased) i j noLevel h) ∙ is)));
         }
 
-  pub answers-are-marked : (d : PageAnswer) → decodedPage s soft limit ≡ d → Marked (outcomeOf d .report)
+  pub answers-are-marked : (d : PageAnswer) → decodedPage choice s soft limit ≡ d → Marked (outcomeOf d .report)
   unfolding outcomeOf
   answers-are-marked (refused l) e = refusals-are-marked
   answers-are-marked (answered ls n) e = answered-is-marked ls n e
 
   -- either decoder, and asking by either, every input
-  pub reports-are-marked : (B : Buffer) (old : List ℕ) (r : PageOutcome) (new : List ℕ) → PageFilled B s soft limit old r new → Marked (r .report)
+  pub reports-are-marked : (B : Buffer) (old : List ℕ) (r : PageOutcome) (new : List ℕ) → PageFilled B choice s soft limit old r new → Marked (r .report)
   reports-are-marked B old r new call =
       subst⁻¹ (λ (o : PageOutcome). Marked (o .report)) (call .answer)
-      (every-way soft limit (eqb (length old) (B .places)) (λ (o : PageOutcome). Marked (o .report)) refusedPage (outcomeOf (decodedPage s soft limit)) (λ n p some few near. refusals-are-marked) (λ most. answers-are-marked (decodedPage s soft limit) refl))
+      (every-way choice soft limit (eqb (length old) (B .places)) (λ (o : PageOutcome). Marked (o .report)) refusedPage (outcomeOf (decodedPage choice s soft limit)) (λ n p some few near. refusals-are-marked) (λ most. answers-are-marked (decodedPage choice s soft limit) refl))
 
-  answers-have-their-marks : (d : PageAnswer) → decodedPage s soft limit ≡ d → outcomeOf d .number ≡ 0 → MarksOf d (outcomeOf d .report)
+  answers-have-their-marks : (d : PageAnswer) → decodedPage choice s soft limit ≡ d → outcomeOf d .number ≡ 0 → MarksOf d (outcomeOf d .report)
   unfolding outcomeOf
   answers-have-their-marks (refused l) e z = absurd (omega (arith, z))
   answers-have-their-marks (answered ls n) e z = record { levels = ls; is = refl; changed-bit = bit ls n e (λ l. l .changed); erased-bit = bit ls n e (λ l. l .erased) }
 
   -- each of them, where it answers: the bits of its marks are the columns of the levels' sets
-  pub bits-are-the-columns : (B : Buffer) (old : List ℕ) (r : PageOutcome) (new : List ℕ) → PageFilled B s soft limit old r new → r .number ≡ 0 → MarksOf (decodedPage s soft limit) (r .report)
+  pub bits-are-the-columns : (B : Buffer) (old : List ℕ) (r : PageOutcome) (new : List ℕ) → PageFilled B choice s soft limit old r new → r .number ≡ 0 → MarksOf (decodedPage choice s soft limit) (r .report)
   bits-are-the-columns B old r new call =
       subst⁻¹ HasMarks (call .answer)
-      (every-way soft limit (eqb (length old) (B .places)) HasMarks refusedPage (outcomeOf D) (λ n p some few near z. absurd (omega (arith, some, z))) (λ most. answers-have-their-marks D refl))
+      (every-way choice soft limit (eqb (length old) (B .places)) HasMarks refusedPage (outcomeOf D) (λ n p some few near z. absurd (omega (arith, some, z))) (λ most. answers-have-their-marks D refl))
     where
       D : PageAnswer
-      D = decodedPage s soft limit
+      D = decodedPage choice s soft limit
 
       HasMarks : PageOutcome → Type 0
-      HasMarks o = o .number ≡ 0 → MarksOf (decodedPage s soft limit) (o .report)
+      HasMarks o = o .number ≡ 0 → MarksOf (decodedPage choice s soft limit) (o .report)
 
   -- ---- the low point
 
-  pub answers-are-near : (d : PageAnswer) → decodedPage s soft limit ≡ d → natAbs (outcomeOf d .report .low) ≤ 1800
+  pub answers-are-near : (d : PageAnswer) → decodedPage choice s soft limit ≡ d → natAbs (outcomeOf d .report .low) ≤ 1800
   unfolding outcomeOf
   answers-are-near (refused l) e = omega arith
-  answers-are-near (answered ls n) e = short-page-low-is-near s limit (softColumns shortPage soft) (as-many-columns shortPage soft) ls n e
+  answers-are-near (answered ls n) e = short-page-low-is-near choice s limit (softColumns shortPage soft) (as-many-columns shortPage soft) ls n e
 
-  answers-have-the-lowest : (d : PageAnswer) → decodedPage s soft limit ≡ d → (outcomeOf d .number ≡ 0 → LowestColumn d (outcomeOf d .report)) × ((outcomeOf d .number ≡ 0 → ⊥) → outcomeOf d .report .low ≡ pos 0)
+  answers-have-the-lowest : (d : PageAnswer) → decodedPage choice s soft limit ≡ d → (outcomeOf d .number ≡ 0 → LowestColumn d (outcomeOf d .report)) × ((outcomeOf d .number ≡ 0 → ⊥) → outcomeOf d .report .low ≡ pos 0)
   unfolding outcomeOf
   answers-have-the-lowest (refused l) e = (λ z. absurd (omega (arith, z)), λ some. refl)
   answers-have-the-lowest (answered ls n) e =
       let page = softColumns shortPage soft in
       let wide = as-many-columns shortPage soft in (
-        λ z. record { levels = ls; is = refl; some-unerased = short-levels-have-an-unerased-column s limit page wide ls n e; lowest = short-page-low-is-lowest s limit page wide ls n e },
+        λ z. record { levels = ls; is = refl; some-unerased = short-levels-have-an-unerased-column choice s limit page wide ls n e; lowest = short-page-low-is-lowest choice s limit page wide ls n e },
         λ some. absurd (some refl),
       )
 
   -- each of them: where it answers, the low point is that of the lowest column; a refusal has 0
-  pub low-is-of-the-lowest-column : (B : Buffer) (old : List ℕ) (r : PageOutcome) (new : List ℕ) → PageFilled B s soft limit old r new
-      → (r .number ≡ 0 → LowestColumn (decodedPage s soft limit) (r .report)) × ((r .number ≡ 0 → ⊥) → r .report .low ≡ pos 0)
+  pub low-is-of-the-lowest-column : (B : Buffer) (old : List ℕ) (r : PageOutcome) (new : List ℕ) → PageFilled B choice s soft limit old r new
+      → (r .number ≡ 0 → LowestColumn (decodedPage choice s soft limit) (r .report)) × ((r .number ≡ 0 → ⊥) → r .report .low ≡ pos 0)
   low-is-of-the-lowest-column B old r new call =
       subst⁻¹ HasLow (call .answer)
-      (every-way soft limit (eqb (length old) (B .places)) HasLow refusedPage (outcomeOf D) (λ n p some few near. (λ z. absurd (omega (arith, some, z)), λ k. refl)) (λ most. answers-have-the-lowest D refl))
+      (every-way choice soft limit (eqb (length old) (B .places)) HasLow refusedPage (outcomeOf D) (λ n p some few near. (λ z. absurd (omega (arith, some, z)), λ k. refl)) (λ most. answers-have-the-lowest D refl))
     where
       D : PageAnswer
-      D = decodedPage s soft limit
+      D = decodedPage choice s soft limit
 
       HasLow : PageOutcome → Type 0
-      HasLow o = (o .number ≡ 0 → LowestColumn (decodedPage s soft limit) (o .report)) × ((o .number ≡ 0 → ⊥) → o .report .low ≡ pos 0)
+      HasLow o = (o .number ≡ 0 → LowestColumn (decodedPage choice s soft limit) (o .report)) × ((o .number ≡ 0 → ⊥) → o .report .low ≡ pos 0)

@@ -1,4 +1,5 @@
--- Demand 2 of the calls: a written page comes back from either page decoder. Assumes nothing.
+-- Demand 2 of the calls: a written page comes back from either page decoder, with list of two or without. Assumes nothing.
+use mathlib.Core.Bool.{true}
 use mathlib.Core.List.{List}
 use mathlib.Core.Path.{_≡_, sym, ap, _∙_}
 use Prim.Native.Nat.{ℕ, _≤_}
@@ -7,6 +8,7 @@ use lib.Dec.{eqb}
 use lib.ListN.{length}
 use Rattle.dump.specs.Accepted.{Values}
 use Rattle.trellis.specs.Demand.{Search}
+use Rattle.trellis.specs.TwoWords.{Choice, thresholdAllowed}
 use Rattle.concatenated.specs.Format.{shortPage}
 use Rattle.concatenated.specs.SoftPage.{softColumns}
 use Rattle.concatenated.specs.Decode.{answered}
@@ -20,23 +22,23 @@ use Rattle.page.specs.declared.PageOutcome.{PageOutcome}
 use Rattle.concatenated.proofs.Digits.{Below}
 use Rattle.concatenated.proofs.OuterJoint.{outer-laws}
 use Rattle.concatenated.proofs.Short.{written-page-comes-back}
-use Rattle.store_pages.specs.Pages.{decodedPage, askPage, PageDecoded}
+use Rattle.store_pages.specs.Pages.{decodedPage, askPage, PageFilled}
 use Rattle.store_pages.specs.WrittenPages.{CameBack}
 use Rattle.questions.proofs.AllInRange.{no-value-above}
 use Rattle.store_pages.proofs.Asked.{all-yes}
 
-module _ (soft : List ℕ) (values-soft : Values 1890 7 soft) (limit : ℕ) (some : 1 ≤ limit) (at-most : limit ≤ 2000) (old : List ℕ) (room : length old ≡ 150) where
-  pub accepted : (A : Type 0) (refusal : ℕ → ℕ → A) (next : A) → next ≡ askPage soft limit (eqb (length old) 150) refusal next
-  accepted = all-yes soft limit (eqb (length old) 150) (values-soft .size) (eq-eqb _ _ room) some at-most (leb-true 1890 (firstAbove soft 7) (no-value-above soft 1890 7 (values-soft .size) (values-soft .range)))
+module _ (soft : List ℕ) (values-soft : Values 1890 7 soft) (limit : ℕ) (some : 1 ≤ limit) (at-most : limit ≤ 2000) (choice : Choice) (in-range : thresholdAllowed choice ≡ true) (old : List ℕ) (room : length old ≡ 150) where
+  pub accepted : (A : Type 0) (refusal : ℕ → ℕ → A) (next : A) → next ≡ askPage choice soft limit (eqb (length old) 150) refusal next
+  accepted = all-yes choice soft limit (eqb (length old) 150) (values-soft .size) (eq-eqb _ _ room) some at-most in-range (leb-true 1890 (firstAbove soft 7) (no-value-above soft 1890 7 (values-soft .size) (values-soft .range)))
 
   -- what `encode_page` wrote, read within reach at each level, comes back from the call
   pub written-page-comes-back-from-the-calls : (s : Search) (bytes : List ℕ) → length bytes ≡ 150 → Below 256 bytes
-      → WithinReach shortPage shortOuter (shortReader s limit) (columnsOf 63 (writtenRows shortPage shortEncoder bytes)) (softColumns shortPage soft)
-      → (r : PageOutcome) (new : List ℕ) → PageDecoded s soft limit old r new → CameBack (decodedPage s soft limit) bytes r new
+      → WithinReach shortPage shortOuter (shortReader choice s limit) (columnsOf 63 (writtenRows shortPage shortEncoder bytes)) (softColumns shortPage soft)
+      → (r : PageOutcome) (new : List ℕ) → PageFilled dataBuffer choice s soft limit old r new → CameBack (decodedPage choice s soft limit) bytes r new
   unfolding outcomeOf filled
   written-page-comes-back-from-the-calls s bytes full are-bytes within r new call =
-      let back = written-page-comes-back shortOuter shortEncoder ShortCodeword outer-laws s limit bytes full are-bytes soft within in
-      let D = decodedPage s soft limit in
+      let back = written-page-comes-back shortOuter shortEncoder ShortCodeword outer-laws choice s limit bytes full are-bytes soft within in
+      let D = decodedPage choice s soft limit in
       let outcome : r ≡ outcomeOf (answered (back .0) (back .1)) = call .answer ∙ sym (accepted PageOutcome refusedPage (outcomeOf D)) ∙ ap outcomeOf (back .2) in
       record {
         number = ap (λ (x : PageOutcome). x .number) outcome;

@@ -7,6 +7,7 @@ use lib.IntN.{pos}
 use lib.ListN.{length, getD, getD-replicate, replicate}
 use Rattle.dump.specs.Accepted.{Values}
 use Rattle.trellis.specs.Demand.{Search}
+use Rattle.trellis.specs.TwoWords.{off}
 use Rattle.paths.specs.Low.{lower, lowest-from, lowest}
 use Rattle.concatenated.specs.Lists.{total, listed}
 use Rattle.concatenated.specs.Decode.{allLows, pageLow}
@@ -28,8 +29,8 @@ pub zero-page-comes-back-from-the-calls : (s : Search) (limit : ℕ) → 30 ≤ 
     → (r ≡ record { number = 0; place = 0; report = noColumns 7560 (pos 2) }) × (new ≡ replicate 150 0)
 unfolding outcomeOf filled total markOf listed pageLow allLows flatMap lowest lowest-from lower
 zero-page-comes-back-from-the-calls s limit enough most old room r new call =
-    let asked = accepted (zeroPage shortPage) zeros-are-soft limit (omega arith) most old room in
-    let D = decodedPage s (zeroPage shortPage) limit in
+    let asked = accepted (zeroPage shortPage) zeros-are-soft limit (omega arith) most off refl old room in
+    let D = decodedPage off s (zeroPage shortPage) limit in
     let back = zero-page-comes-back s limit enough in (
       call .answer ∙ sym (asked PageOutcome refusedPage (outcomeOf D)) ∙ ap outcomeOf back,
       call .bytes ∙ sym (asked (List ℕ) (λ n p. old) (filled dataBuffer old D)) ∙ ap (filled dataBuffer old) back ∙ zero-levels-hold-zeros,

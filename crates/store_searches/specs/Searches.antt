@@ -1,4 +1,4 @@
--- 01: the answers of the column searches. Assumes nothing.
+-- 01: the answers of the column searches; 02, point 1: with list of two. Assumes nothing.
 use mathlib.Core.List.{List}
 use mathlib.Core.Path.{_≡_}
 use Prim.Native.Nat.{ℕ, _≤_, _<_}
@@ -8,8 +8,9 @@ use lib.ListN.{length, getD}
 use Rattle.column.specs.Shape.{short}
 use Rattle.paths.specs.Search.{SearchResult, answer, spent}
 use Rattle.trellis.specs.Values.{levelValues}
-use Rattle.trellis.specs.Demand.{Search, trellis}
-use Rattle.trellis.specs.Trellis.{WordFound, searched}
+use Rattle.trellis.specs.Demand.{Search}
+use Rattle.trellis.specs.Trellis.{WordFound}
+use Rattle.trellis.specs.TwoWords.{Choice, thresholdAllowed, searchedBy}
 use Rattle.questions.specs.Questions.{ask, firstAbove}
 use Rattle.store_searches.specs.declared.SearchAnswer.{SearchAnswer}
 use Rattle.store_searches.specs.declared.SearchAnswer.the-variants.{Found, Refused}
@@ -61,12 +62,13 @@ unfoldable pub outcomeAnswer : SearchResult WordFound → SearchAnswer
 outcomeAnswer (answer w c) = Found (w .column) c (w .low)
 outcomeAnswer (spent c) = Refused 9 0
 
--- 1: 30 values; 3: the level; 4: the limit 1..2,000; 5: each value 0..7; 9
-abbrev pub searchAnswer : Search → ℕ → List ℕ → ℕ → SearchAnswer
-searchAnswer s level soft limit =
+-- 1: 30 values; 3: the level; 4: the limit 1..2,000; 11: with list of two, its threshold; 5: each value 0..7; 9
+abbrev pub searchAnswer : Choice → Search → ℕ → List ℕ → ℕ → SearchAnswer
+searchAnswer choice s level soft limit =
     ask (eqb (length soft) 30) (Refused 1 0)
     (ask (ltb level 4) (Refused 3 0)
     (ask (leb 1 limit) (Refused 4 0)
     (ask (leb limit 2000) (Refused 4 0)
+    (ask (thresholdAllowed choice) (Refused 11 0)
     (ask (leb 30 (firstAbove soft 7)) (Refused 5 (firstAbove soft 7))
-    (outcomeAnswer (searched (trellis s short (levelValues level) soft level) limit))))))
+    (outcomeAnswer (searchedBy choice s short (levelValues level) limit soft level)))))))

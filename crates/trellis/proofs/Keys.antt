@@ -1,5 +1,5 @@
 -- The search on keys with tables of masks is the search on the trellis's paths. Assumes nothing.
-use mathlib.Core.Bool.{Bool, true, false, _&&_, and-true}
+use mathlib.Core.Bool.{Bool, true, _&&_, and-true}
 use mathlib.Core.List.{List, [], _∷_}
 use mathlib.Core.Logic.{_↔_, _⊎_, inl, inr, ⊎-elim}
 use mathlib.Core.Path.{_≡_, refl, sym, ap, ap₂, _∙_, subst, subst⁻¹}
@@ -24,7 +24,7 @@ use Rattle.paths.specs.Paths.{Path}
 use Rattle.paths.specs.Tree.{Tree, Sound, is-full, Exists as InTree}
 use Rattle.paths.specs.Search.{SearchResult, answer, spent, limited-search}
 use Rattle.paths.specs.Keys.{WithLow, KeysOf, key-with-low, with-key}
-use Rattle.paths.proofs.Booleans.{and-both}
+use Rattle.paths.proofs.Booleans.{and-both, bool-ext}
 use Rattle.paths.proofs.Keys.{search-on-keys-is-search-on-paths}
 use Rattle.trellis.specs.Values.{Values}
 use Rattle.trellis.specs.Order.{bit, number, sum, before}
@@ -35,11 +35,6 @@ use Rattle.trellis.proofs.Order.{before-keys, bit-below}
 use Rattle.trellis.proofs.Existence.{exists-exactly}
 use Rattle.trellis.proofs.Sums.{Near, near-is-not-above, sum-near}
 use Rattle.trellis.proofs.Demand.{Searchable, trellis-sound}
-
-bool-ext : (a b : Bool) → (a ≡ true → b ≡ true) → (b ≡ true → a ≡ true) → a ≡ b
-bool-ext true b f g = sym (f refl)
-bool-ext false true f g = g refl
-bool-ext false false f g = refl
 
 -- the newest bit of p passes a table's check
 passes : List ℕ → Path → Bool
@@ -126,29 +121,32 @@ abbrev pub by-bits : SearchResult (WithLow Key) → SearchResult WordFound
 by-bits (answer k c) = answer (record { column = k .key .bits; low = k .low }) c
 by-bits (spent c) = spent c
 
+pub bits-of : (vs : Values) (soft : List ℕ) (t : Tree) (o : SearchResult Path) → by-bits (with-key (key-with-low t (keyOf vs soft)) o) ≡ with-key (foundWord (t .sum)) o
+unfolding with-key keyOf
+bits-of vs soft t (answer w c) = refl
+bits-of vs soft t (spent c) = refl
+
 -- no sum of a path of at most n bits is above what the search begins with
 abbrev pub NotAbove : ℕ → Values → List ℕ → Type 0
 NotAbove n vs soft = (p : Path) → length p ≤ n → sum vs soft p ≤ℤ noneTaken
 
 module _ (vs : Values) (soft left right : List ℕ) (t : Tree) (sound : Sound t) (keys : KeysOf t (keyNodes (t .size) vs soft left right) (keyOf vs soft)) (high : NotAbove (t .size) vs soft) where
-  key-search-has-the-keys : (limit : ℕ) → keySearch (t .size) vs soft left right limit ≡ with-key (key-with-low t (keyOf vs soft)) (limited-search t limit)
+  pub not-above : (w : Path) → InTree t w → t .sum w ≤ℤ noneTaken
+  unfolding keyOf
+  not-above w x = subst (λ (z : ℤ). z ≤ℤ noneTaken) (keys .same-sum w) (high w (sound .short w (x .in-tree)))
+
+  pub key-search-has-the-keys : (limit : ℕ) → keySearch (t .size) vs soft left right limit ≡ with-key (key-with-low t (keyOf vs soft)) (limited-search t limit)
   unfolding keySearch limited-search keyOf sum number
   key-search-has-the-keys limit =
-      search-on-keys-is-search-on-paths t (keyNodes (t .size) vs soft left right) (keyOf vs soft) keys sound noneTaken
-      (λ w x. subst (λ (z : ℤ). z ≤ℤ noneTaken) (keys .same-sum w) (high w (sound .short w (x .in-tree)))) (λ k. true) limit
+      search-on-keys-is-search-on-paths t (keyNodes (t .size) vs soft left right) (keyOf vs soft) keys sound noneTaken not-above (λ k. true) limit
 
   -- the search on keys is the search
   key-search-is-search : (limit : ℕ) → by-bits (keySearch (t .size) vs soft left right limit) ≡ searched t limit
-  unfolding with-key keyOf
-  key-search-is-search limit = ap by-bits (key-search-has-the-keys limit) ∙ bits-of (limited-search t limit)
-    where
-      bits-of : (o : SearchResult Path) → by-bits (with-key (key-with-low t (keyOf vs soft)) o) ≡ with-key (foundWord (t .sum)) o
-      bits-of (answer w c) = refl
-      bits-of (spent c) = refl
+  key-search-is-search limit = ap by-bits (key-search-has-the-keys limit) ∙ bits-of vs soft t (limited-search t limit)
 
 -- the search on keys by the masks of a search is that search
 module _ (S : Shape) (i : ℕ) (given : Searchable S i) (vs : Values) (soft left right : List ℕ) where
-  keys-of-trellis : (s : Search) → MasksFor s S i left right → KeysOf (trellis s S vs soft i) (keyNodes (S .bits) vs soft left right) (keyOf vs soft)
+  pub keys-of-trellis : (s : Search) → MasksFor s S i left right → KeysOf (trellis s S vs soft i) (keyNodes (S .bits) vs soft left right) (keyOf vs soft)
   keys-of-trellis whole masks = keys-of-whole vs soft left right S i (given .sound) (given .level) (masks .0) (masks .1)
   keys-of-trellis supercode masks = keys-of-supercode vs soft left right S i (given .split) (masks .0) (masks .1)
 

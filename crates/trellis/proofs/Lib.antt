@@ -7,5 +7,9 @@ pub mod Sound
 pub mod Keys
 pub mod Demand
 pub mod Counts
+pub mod HardPath
+pub mod TwoWords
+pub mod TwoKeys
 pub mod Short
 pub mod ZeroColumn
+pub mod Thresholds

@@ -3,3 +3,4 @@ pub mod Order
 pub mod Trellis
 pub mod Demand
 pub mod Keys
+pub mod TwoWords

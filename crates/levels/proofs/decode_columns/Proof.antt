@@ -5,8 +5,9 @@ use mir.Val.{toZ}
 use mir.Facts.{toZ-ofZ}
 use Prim.Native.Nat.{_-_}
 use Rattle.stack.specs.Places.{Room}
-use Rattle.concatenated.specs.Readers.{shortReader}
 use Rattle.search.specs.Outcomes.{searchOf}
+use Rattle.list_of_two.specs.Ways.{choiceOf}
+use Rattle.readings.specs.Steps.{wayReader}
 use Rattle.concatenated.proofs.Lows.{short-page-low-from}
 use Rattle.levels.proofs.LevelRuns.{Decoding, decoding-none, decoding-more, decoding-refused, decoding-answered}
 use borrow.Author.Tests.{not-true, not-false}
@@ -15,10 +16,10 @@ use Rattle.levels.proofs.decode_columns.Statement.{statement}
 use Rattle.levels.proofs.decode_columns.Tie as tie
 
 abbrev Inv-loop : tie.InvT-loop
-Inv-loop work₀ limit in-supercodes sums₀ lens₀ bits₀ held₀ changed₀ erased₀ sum₀ low₀ level₀ work sums lens bits held changed erased sum low level = Decoding (shortReader (searchOf in-supercodes) limit) work₀ work held changed erased sum (toZ w16 low) level × Room sums lens bits
+Inv-loop work₀ way sums₀ lens₀ bits₀ held₀ changed₀ erased₀ sum₀ low₀ level₀ work sums lens bits held changed erased sum low level = Decoding (wayReader way) work₀ work held changed erased sum (toZ w16 low) level × Room sums lens bits
 
 abbrev μ-loop : tie.MeasureT-loop
-μ-loop work₀ limit in-supercodes sums₀ lens₀ bits₀ held₀ changed₀ erased₀ sum₀ low₀ level₀ work sums lens bits held changed erased sum low level = 4 - level
+μ-loop work₀ way sums₀ lens₀ bits₀ held₀ changed₀ erased₀ sum₀ low₀ level₀ work sums lens bits held changed erased sum low level = 4 - level
 
 loop-holds : tie.Need-loop-holds Inv-loop μ-loop
 loop-holds c = (decoding-none _ _ _ _ _ (c .pre .1) (c .pre .3) (c .pre .4) (c .pre .5), c .pre .2)
@@ -70,7 +71,7 @@ loop-again c =
 returns-2 : tie.Need-returns-2 Inv-loop μ-loop
 returns-2 c =
     let a = c .before .before in
-    decoding-answered _ _ _ _ _ _ _ _ _ (c .before .loop .inv .0) (c .loop-test .left) (short-page-low-from (searchOf (a .args .in-supercodes)) (a .args .limit) _ (a .pre .1 .many))
+    decoding-answered _ _ _ _ _ _ _ _ _ (c .before .loop .inv .0) (c .loop-test .left) (short-page-low-from (choiceOf (a .args .way)) (searchOf (a .args .way .«in_supercodes»)) (a .args .way .limit) _ (a .pre .1 .many))
 
 pub decode-columns-spec : {M : Type 1} → statement M
 decode-columns-spec =

@@ -3,8 +3,7 @@ use mathlib.Core.Path.{_≡_, refl, sym, _∙_}
 use mathlib.Core.List.{map}
 use mir.Facts.{toZ-ofZ}
 use lib.ListN.{length, length-map}
-use Rattle.concatenated.specs.Readers.{shortReader}
-use Rattle.search.specs.Outcomes.{searchOf}
+use Rattle.readings.specs.Steps.{wayReader}
 use Rattle.levels.specs.Levels.{LevelDone}
 use Rattle.levels.proofs.LevelSteps.{read-long, read-symbols, soft-off, settled-row-is-a-word, level-refused, level-settled}
 use borrow.Author.Needs.{needs}
@@ -19,14 +18,14 @@ slice-aggregate-decode c =
     let read = c .before in
     let start = read .before .before .before .before .before .before .before in
     let a = start .args in
-    sym (read-long (searchOf (a .in-supercodes)) (a .limit) (a .level) (a .work .now) _ _ _ _ _ (start .pre .2 .many) (read .read-row .ensures .0) .0)
+    sym (read-long (wayReader (a .way) (a .level)) (a .level) (a .work .now) _ _ _ _ _ (start .pre .2 .many) (read .read-row .ensures .0) .0)
 
 slice-aggregate-decode-2 : tie.Need-slice-aggregate-decode-2
 slice-aggregate-decode-2 c =
     let read = c .before .before in
     let start = read .before .before .before .before .before .before .before in
     let a = start .args in
-    sym (read-long (searchOf (a .in-supercodes)) (a .limit) (a .level) (a .work .now) _ _ _ _ _ (start .pre .2 .many) (read .read-row .ensures .0) .1)
+    sym (read-long (wayReader (a .way) (a .level)) (a .level) (a .work .now) _ _ _ _ _ (start .pre .2 .many) (read .read-row .ensures .0) .1)
 
 roots-requires : tie.Need-roots-requires
 roots-requires c κs = search needs
@@ -39,10 +38,10 @@ decode-requires c κs =
     let read = c .before .before .before .before in
     let start = read .before .before .before .before .before .before .before in
     let level = start .args .level in
-    let kind = searchOf (start .args .in-supercodes) in
+    let read-at = wayReader (start .args .way) level in
     let work = start .args .work .now in
-    let longs = read-long kind (start .args .limit) level work _ _ _ _ _ (start .pre .2 .many) (read .read-row .ensures .0) in
-    (longs .0, longs .1, refl, read-symbols kind (start .args .limit) level (start .pre .0) work _ _ _ _ _ (read .read-row .ensures .0), c .before .roots .ensures .1)
+    let longs = read-long read-at level work _ _ _ _ _ (start .pre .2 .many) (read .read-row .ensures .0) in
+    (longs .0, longs .1, refl, read-symbols (start .args .way) level (start .pre .0) work _ _ _ _ _ (read .read-row .ensures .0), c .before .roots .ensures .1)
 
 changed-mark-requires : tie.Need-changed-mark-requires
 changed-mark-requires c κs =
@@ -50,10 +49,10 @@ changed-mark-requires c κs =
     let given = c .before .before .before .before .before in
     let start = read .before .before .before .before .before .before .before in
     let level = start .args .level in
-    let kind = searchOf (start .args .in-supercodes) in
+    let read-at = wayReader (start .args .way) level in
     let work = start .args .work .now in
-    let long : length (map (shortReader kind (start .args .limit) level) work) ≡ 63 = length-map work (shortReader kind (start .args .limit) level) ∙ start .pre .2 .many in
-    let longs = read-long kind (start .args .limit) level work _ _ _ _ _ (start .pre .2 .many) (read .read-row .ensures .0) in
+    let long : length (map read-at work) ≡ 63 = length-map work read-at ∙ start .pre .2 .many in
+    let longs = read-long read-at level work _ _ _ _ _ (start .pre .2 .many) (read .read-row .ensures .0) in
     let word = settled-row-is-a-word level (start .pre .0) _ long _ _ _ _ _ (read .read-row .ensures .0) _ (given .before .before .roots .ensures .0) _ _ _ (given .decode .ensures) (c .before .before .before .if1 .taken) in
     (longs .0, longs .1, word .0)
 
@@ -62,7 +61,7 @@ mark-of-requires c κs =
     let read = c .before .before .before .before .before .before .before .before .before .before .before .before in
     let start = read .before .before .before .before .before .before .before in
     let a = start .args in
-    read-long (searchOf (a .in-supercodes)) (a .limit) (a .level) (a .work .now) _ _ _ _ _ (start .pre .2 .many) (read .read-row .ensures .0) .1
+    read-long (wayReader (a .way) (a .level)) (a .level) (a .work .now) _ _ _ _ _ (start .pre .2 .many) (read .read-row .ensures .0) .1
 
 take-off-requires : tie.Need-take-off-requires
 take-off-requires c κs =
@@ -70,9 +69,9 @@ take-off-requires c κs =
     let given = c .before .before .before .before .before .before .before .before .before .before in
     let start = read .before .before .before .before .before .before .before in
     let level = start .args .level in
-    let kind = searchOf (start .args .in-supercodes) in
+    let read-at = wayReader (start .args .way) level in
     let work = start .args .work .now in
-    let long : length (map (shortReader kind (start .args .limit) level) work) ≡ 63 = length-map work (shortReader kind (start .args .limit) level) ∙ start .pre .2 .many in
+    let long : length (map read-at work) ≡ 63 = length-map work read-at ∙ start .pre .2 .many in
     let word = settled-row-is-a-word level (start .pre .0) _ long _ _ _ _ _ (read .read-row .ensures .0) _ (given .before .before .roots .ensures .0) _ _ _ (given .decode .ensures) (c .before .before .before .before .before .before .before .before .if1 .taken) in
     (start .pre .0, start .pre .2, word)
 
@@ -84,9 +83,9 @@ returns c =
     let taken = c .before .before .before .before .before .before .before .before .before .before .if1 .taken in
     let start = read .before .before .before .before .before .before .before in
     let level = start .args .level in
-    let kind = searchOf (start .args .in-supercodes) in
+    let read-at = wayReader (start .args .way) level in
     let work = start .args .work .now in
-    let long : length (map (shortReader kind (start .args .limit) level) work) ≡ 63 = length-map work (shortReader kind (start .args .limit) level) ∙ start .pre .2 .many in
+    let long : length (map read-at work) ≡ 63 = length-map work read-at ∙ start .pre .2 .many in
     let t = given .before .before .roots .ensures .0 in
     let word = settled-row-is-a-word level (start .pre .0) _ long _ _ _ _ _ (read .read-row .ensures .0) _ t _ _ _ (given .decode .ensures) taken in (
       level-settled level (start .pre .0) _ long _ _ _ _ _ (read .read-row .ensures .0) _ t _ _ _ (given .decode .ensures) taken _ (toZ-ofZ (start .fits .lowest)) work _ _ refl refl (c .before .before .before .before .before .before .changed-mark .ensures) (c .before .before .before .before .mark-of .ensures) refl (toZ-ofZ (record { sfits = c .struct-told .given .1 .0 .1 })) (c .before .take-off .ensures),
@@ -103,9 +102,9 @@ returns-2 c =
     let left = c .before .if1 .left in
     let start = read .before .before .before .before .before .before .before in
     let level = start .args .level in
-    let kind = searchOf (start .args .in-supercodes) in
+    let read-at = wayReader (start .args .way) level in
     let work = start .args .work .now in
-    let long : length (map (shortReader kind (start .args .limit) level) work) ≡ 63 = length-map work (shortReader kind (start .args .limit) level) ∙ start .pre .2 .many in
+    let long : length (map read-at work) ≡ 63 = length-map work read-at ∙ start .pre .2 .many in
     let t = given .before .before .roots .ensures .0 in (
       level-refused level (start .pre .0) _ long _ _ _ _ _ (read .read-row .ensures .0) _ t _ _ _ (given .decode .ensures) left _ work _ _ refl,
       read .read-row .ensures .0 .few,

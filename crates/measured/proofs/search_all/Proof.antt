@@ -7,9 +7,11 @@ use lib.ListN.{length, take, drop}
 use Rattle.column.specs.Shape.{short}
 use Rattle.paths.specs.Search.{SearchResult}
 use Rattle.trellis.specs.Values.{levelValues}
-use Rattle.trellis.specs.Demand.{Search, trellis}
-use Rattle.trellis.specs.Trellis.{WordFound, searched}
+use Rattle.trellis.specs.Demand.{Search}
+use Rattle.trellis.specs.Trellis.{WordFound}
+use Rattle.trellis.specs.TwoWords.{searchedBy}
 use Rattle.search.specs.Outcomes.{TablesFor}
+use Rattle.list_of_two.specs.Ways.{choiceOf}
 use Rattle.stack.specs.Places.{Room}
 use Rattle.search.proofs.ShortSearch.{column-searchable}
 use Rattle.measured.proofs.Parts.{part-long, part-range, Folded, none-folded, one-more-folded, all-folded}
@@ -19,14 +21,14 @@ use Rattle.measured.proofs.search_all.Statement.{statement}
 use Rattle.measured.proofs.search_all.Tie as tie
 
 abbrev Inv-loop : tie.InvT-loop
-Inv-loop soft left right values limit sums₀ lens₀ bits₀ fold₀ a₀ sums lens bits fold a = (a ≤ length soft) × (a % 30 ≡ 0) × Room sums lens bits
-    × ((s : Search) (i : ℕ) → i < 4 → TablesFor s i left right values → Folded (λ c. searched (trellis s short (levelValues i) c i) limit) soft a fold)
+Inv-loop soft level left right values way sums₀ lens₀ bits₀ fold₀ a₀ sums lens bits fold a = (a ≤ length soft) × (a % 30 ≡ 0) × Room sums lens bits
+    × ((s : Search) → TablesFor s level left right values → Folded (λ c. searchedBy (choiceOf way) s short (levelValues level) (way .limit) c level) soft a fold)
 
 abbrev μ-loop : tie.MeasureT-loop
-μ-loop soft left right values limit sums₀ lens₀ bits₀ fold₀ a₀ sums lens bits fold a = length soft - a
+μ-loop soft level left right values way sums₀ lens₀ bits₀ fold₀ a₀ sums lens bits fold a = length soft - a
 
 loop-holds : tie.Need-loop-holds Inv-loop μ-loop
-loop-holds c = (search needs, search needs, search needs, λ s i h tables. none-folded _ _)
+loop-holds c = (search needs, search needs, search needs, λ s tables. none-folded _ _)
 
 sub-loop : tie.Need-sub-loop Inv-loop μ-loop
 sub-loop c = search needs
@@ -34,27 +36,30 @@ sub-loop c = search needs
 add-e : tie.Need-add-e Inv-loop μ-loop
 add-e c = search needs
 
-sub-search-column : tie.Need-sub-search-column Inv-loop μ-loop
-sub-search-column c = search needs
+sub-search-by : tie.Need-sub-search-by Inv-loop μ-loop
+sub-search-by c = search needs
 
-part-search-column-start : tie.Need-part-search-column-start Inv-loop μ-loop
-part-search-column-start c = search needs
+part-search-by-start : tie.Need-part-search-by-start Inv-loop μ-loop
+part-search-by-start c = search needs
 
-part-search-column-end : tie.Need-part-search-column-end Inv-loop μ-loop
-part-search-column-end c = search needs
+part-search-by-end : tie.Need-part-search-by-end Inv-loop μ-loop
+part-search-by-end c = search needs
 
-search-column-requires : tie.Need-search-column-requires Inv-loop μ-loop
-search-column-requires c κs =
+search-by-requires : tie.Need-search-by-requires Inv-loop μ-loop
+search-by-requires c κs =
     let at-loop = c .before .before .before .before .before .before .before in
     let start = at-loop .before .before in
     let soft = start .args .soft .now in
     let a = at-loop .loop .a in
     let fits : a + 30 ≤ length soft = omega (arith, at-loop .loop .inv .0) in
-    let tables = start .pre .1 .1 in (
+    let tables = start .pre .1 .1 .1 in (
       start .pre .0,
       (
-        column-searchable (tables .0) (tables .1) (tables .2) (take (a + 30 - a) (drop a soft)) _ _ _ (part-long soft a fits) (part-range soft a fits (start .pre .1 .0)) (tables .3),
-        at-loop .loop .inv .2,
+        start .pre .1 .0,
+        (
+          column-searchable (tables .0) (start .args .level) (start .pre .1 .0) (take (a + 30 - a) (drop a soft)) _ _ _ (part-long soft a fits) (part-range soft a fits (start .pre .1 .1 .0)) (tables .1),
+          at-loop .loop .inv .2,
+        ),
       ),
     )
 
@@ -77,11 +82,12 @@ loop-again c =
     let whole : (a + 30) % 30 ≡ 0 = omega (arith, inv .1) in (
       fits,
       whole,
-      found .search-column .ensures .0,
-      λ s i h tables.
-          let search : List ℕ → SearchResult WordFound = λ x. searched (trellis s short (levelValues i) x i) (start .args .limit) in
+      found .search-by .ensures .0,
+      λ s tables.
+          let way = start .args .way in
+          let search : List ℕ → SearchResult WordFound = λ x. searchedBy (choiceOf way) s short (levelValues (start .args .level)) (way .limit) x (start .args .level) in
           subst⁻¹ (λ (x : ℕ). Folded search soft (a + 30) (bitXor (at-loop .loop .fold) x)) (c .folded .ensures)
-          (one-more-folded search soft a _ _ (inv .1) (inv .3 s i h tables) (found .search-column .ensures .1 s i h tables)),
+          (one-more-folded search soft a _ _ (inv .1) (inv .3 s tables) (found .search-by .ensures .1 s tables)),
     )
 
 returns : tie.Need-returns Inv-loop μ-loop
@@ -90,7 +96,7 @@ returns c =
     let inv = at-loop .loop .inv in
     let soft = at-loop .before .before .args .soft .now in
     let last : length soft - at-loop .loop .a < 30 = omega (arith, c .loop-test .left) in
-    λ s i h tables. all-folded _ soft _ _ (inv .1) (inv .0) last (inv .3 s i h tables)
+    λ s tables. all-folded _ soft _ _ (inv .1) (inv .0) last (inv .3 s tables)
 
 pub search-all-spec : {M : Type 1} → statement M
 search-all-spec =
@@ -101,10 +107,10 @@ search-all-spec =
     loop-holds
     sub-loop
     add-e
-    sub-search-column
-    part-search-column-start
-    part-search-column-end
-    search-column-requires
+    sub-search-by
+    part-search-by-start
+    part-search-by-end
+    search-by-requires
     folded-requires
     loop-less
     loop-again

@@ -5,8 +5,7 @@ use mathlib.Core.List.{List}
 use mir.Facts.{toZ-ofZ}
 use Rattle.column.specs.Shape.{short}
 use Rattle.concatenated.specs.Decode.{decoded}
-use Rattle.concatenated.specs.Readers.{shortReader}
-use Rattle.search.specs.Outcomes.{searchOf}
+use Rattle.readings.specs.Steps.{wayReader}
 use Rattle.concatenated.specs.OuterCode.{shortOuter}
 use Rattle.page.specs.Outcomes.{outcomeOf, symbolBuffer, filled}
 use Rattle.page.proofs.PageOutcomes.{soft-columns, is-answered, is-refused, refusal-is-10, refusal-keeps-the-symbols, answered-outcome, answered-symbols}
@@ -29,7 +28,7 @@ row-after-row-requires : tie.Need-row-after-row-requires
 row-after-row-requires c κs =
     let left = c .before .before .before .before .before in
     let start = left .before .before .before .before .before .before .before .before .before .before .before .before in
-    let read = shortReader (searchOf (start .args .in-supercodes)) (start .args .limit) in
+    let read = wayReader (start .args .way) in
     let told = c .before .before .before .outcome .given in
     let answer = is-answered read _ _ _ _ _ (left .decode-columns .ensures) (told .0 .0) (told .0 .1 .0) (told .1) in
     (answer .good, start .pre .3)
@@ -38,7 +37,7 @@ totals-requires : tie.Need-totals-requires
 totals-requires c κs =
     let left = c .before .before .before .before .before .before .before .before .before in
     let start = left .before .before .before .before .before .before .before .before .before .before .before .before in
-    let read = shortReader (searchOf (start .args .in-supercodes)) (start .args .limit) in
+    let read = wayReader (start .args .way) in
     let told = c .before .before .before .before .before .before .before .outcome .given in
     let answer = is-answered read _ _ _ _ _ (left .decode-columns .ensures) (told .0 .0) (told .0 .1 .0) (told .1) in
     answer .four-changed
@@ -47,7 +46,7 @@ totals-requires-2 : tie.Need-totals-requires-2
 totals-requires-2 c κs =
     let left = c .before .before .before .before .before .before .before .before .before .before .before in
     let start = left .before .before .before .before .before .before .before .before .before .before .before .before in
-    let read = shortReader (searchOf (start .args .in-supercodes)) (start .args .limit) in
+    let read = wayReader (start .args .way) in
     let told = c .before .before .before .before .before .before .before .before .before .outcome .given in
     let answer = is-answered read _ _ _ _ _ (left .decode-columns .ensures) (told .0 .0) (told .0 .1 .0) (told .1) in
     answer .four-erased
@@ -65,7 +64,7 @@ returns : tie.Need-returns
 returns c =
     let left = c .before .before .before .before .before .before .before .before .before .before .before .before in
     let start = left .before .before .before .before .before .before .before .before .before .before .before .before in
-    let read = shortReader (searchOf (start .args .in-supercodes)) (start .args .limit) in
+    let read = wayReader (start .args .way) in
     let told = c .before .before .before .before .before .before .before .before .before .before .outcome .given in
     let answer = is-answered read _ _ _ _ _ (left .decode-columns .ensures) (told .0 .0) (told .0 .1 .0) (told .1) in
     let loaded = left .before .before .before .before .before .before .before .before .load .ensures in
@@ -78,7 +77,7 @@ returns-2 : tie.Need-returns-2
 returns-2 c =
     let left = c .before .before .before .before in
     let start = left .before .before .before .before .before .before .before .before .before .before .before .before in
-    let read = shortReader (searchOf (start .args .in-supercodes)) (start .args .limit) in
+    let read = wayReader (start .args .way) in
     let told = c .before .before .outcome2 .given in
     let loaded = left .before .before .before .before .before .before .before .before .load .ensures in
     let old = start .args .symbols .now in

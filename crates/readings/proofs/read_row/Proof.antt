@@ -9,11 +9,11 @@ use lib.ListN.{length, getD}
 use Rattle.stack.specs.Places.{Room}
 use Rattle.concatenated.specs.Decode.{count}
 use Rattle.concatenated.specs.SoftPage.{Soft}
-use Rattle.concatenated.specs.Readers.{shortReader}
 use Rattle.search.specs.Outcomes.{searchOf}
+use Rattle.list_of_two.specs.Ways.{choiceOf}
 use Rattle.search.proofs.ShortSearch.{column-searchable}
 use Rattle.concatenated.proofs.Lists.{all-at}
-use Rattle.readings.specs.Steps.{asReading}
+use Rattle.readings.specs.Steps.{asReading, wayReader}
 use Rattle.readings.proofs.RowReading.{RowFilling, nothing-read, one-more-read, all-read, reads-it, word-in-range, count-within-the-limit, soft-column}
 use native.Mathlib.Omega.{arith}
 use borrow.Author.Needs.{needs}
@@ -21,10 +21,10 @@ use Rattle.readings.proofs.read_row.Statement.{statement}
 use Rattle.readings.proofs.read_row.Tie as tie
 
 abbrev Inv-loop : tie.InvT-loop
-Inv-loop level work limit in-supercodes lowest sums₀ lens₀ bits₀ symbols₀ marks₀ left right values sum₀ low₀ j₀ sums lens bits symbols marks sum low j = RowFilling level (shortReader (searchOf in-supercodes) limit level) work (toZ w16 lowest) symbols marks sum (toZ w16 low) j × Room sums lens bits
+Inv-loop level work way lowest sums₀ lens₀ bits₀ symbols₀ marks₀ left right values sum₀ low₀ j₀ sums lens bits symbols marks sum low j = RowFilling level (wayReader way level) work (toZ w16 lowest) symbols marks sum (toZ w16 low) j × Room sums lens bits
 
 abbrev μ-loop : tie.MeasureT-loop
-μ-loop level work limit in-supercodes lowest sums₀ lens₀ bits₀ symbols₀ marks₀ left right values sum₀ low₀ j₀ sums lens bits symbols marks sum low j = 63 - j
+μ-loop level work way lowest sums₀ lens₀ bits₀ symbols₀ marks₀ left right values sum₀ low₀ j₀ sums lens bits symbols marks sum low j = 63 - j
 
 -- ---- what the places share
 
@@ -32,25 +32,26 @@ abbrev start : tie.At-loop Inv-loop μ-loop → tie.Start Inv-loop μ-loop
 start turn = turn .before .before .before .before .before
 
 -- the turn of the loop that a column is searched in
-abbrev turn-of : tie.After-search-column Inv-loop μ-loop → tie.At-loop Inv-loop μ-loop
+abbrev turn-of : tie.After-search-by Inv-loop μ-loop → tie.At-loop Inv-loop μ-loop
 turn-of found = found .before .before .before .before .before .before .before .before .before .before
 
 -- the column's search is its reading
-searched-is : (found : tie.After-search-column Inv-loop μ-loop)
-    → asReading (start (turn-of found) .args .limit) (found .search-column .result)
-    ≡ shortReader (searchOf (start (turn-of found) .args .in-supercodes)) (start (turn-of found) .args .limit) (start (turn-of found) .args .level) (getD (start (turn-of found) .args .work .now) (turn-of found .loop .j) [])
+searched-is : (found : tie.After-search-by Inv-loop μ-loop)
+    → asReading (start (turn-of found) .args .way .limit) (found .search-by .result)
+    ≡ wayReader (start (turn-of found) .args .way) (start (turn-of found) .args .level) (getD (start (turn-of found) .args .work .now) (turn-of found .loop .j) [])
 searched-is found =
     let made = turn-of found .before .before .before .before in
     let a = start (turn-of found) in
-    let kind = searchOf (a .args .in-supercodes) in
-    reads-it kind (a .args .limit) (a .args .level) (a .pre .0) _ (found .search-column .result) (found .search-column .ensures .1 kind (a .args .level) (a .pre .0) (made .tables-of .ensures))
+    let way = a .args .way in
+    reads-it (choiceOf way) (searchOf (way .«in_supercodes»)) (way .limit) (a .args .level) (a .pre .0) _ (found .search-by .result) (found .search-by .ensures .1 (searchOf (way .«in_supercodes»)) (made .tables-of .ensures))
 
 -- and counts at most the limit
 count-few : (turn : tie.At-loop Inv-loop μ-loop)
-    → count (shortReader (searchOf (start turn .args .in-supercodes)) (start turn .args .limit) (start turn .args .level) (getD (start turn .args .work .now) (turn .loop .j) [])) ≤ 2000
+    → count (wayReader (start turn .args .way) (start turn .args .level) (getD (start turn .args .work .now) (turn .loop .j) [])) ≤ 2000
 count-few turn =
     let a = start turn in
-    omega (arith, count-within-the-limit (searchOf (a .args .in-supercodes)) (a .args .limit) (a .args .level) (a .pre .0) (getD (a .args .work .now) (turn .loop .j) []), a .pre .1)
+    let way = a .args .way in
+    omega (arith, count-within-the-limit (choiceOf way) (searchOf (way .«in_supercodes»)) (way .limit) (a .args .level) (a .pre .0) (getD (a .args .work .now) (turn .loop .j) []), a .pre .1)
 
 tables-of-requires : tie.Need-tables-of-requires Inv-loop μ-loop
 tables-of-requires c κs = search needs
@@ -66,22 +67,22 @@ mul-column c = search needs
 element-copy-out-column : tie.Need-element-copy-out-column Inv-loop μ-loop
 element-copy-out-column c = search needs
 
-slice-aggregate-search-column : tie.Need-slice-aggregate-search-column Inv-loop μ-loop
-slice-aggregate-search-column c =
+slice-aggregate-search-by : tie.Need-slice-aggregate-search-by Inv-loop μ-loop
+slice-aggregate-search-by c =
     let turn = c .before .before .before .before .before .before in
     let start = turn .before .before .before .before .before in
     let work = start .args .work .now in
     let long : turn .loop .j < length work = omega (arith, start .pre .2 .many, c .before .before .before .before .before .loop-test .taken) in
     sym (all-at (λ x. (length x ≡ 30) × Soft x) work (turn .loop .j) [] (start .pre .2 .soft) long .0)
 
-slice-aggregate-search-column-2 : tie.Need-slice-aggregate-search-column-2 Inv-loop μ-loop
-slice-aggregate-search-column-2 c = search needs
+slice-aggregate-search-by-2 : tie.Need-slice-aggregate-search-by-2 Inv-loop μ-loop
+slice-aggregate-search-by-2 c = search needs
 
-slice-aggregate-search-column-3 : tie.Need-slice-aggregate-search-column-3 Inv-loop μ-loop
-slice-aggregate-search-column-3 c = search needs
+slice-aggregate-search-by-3 : tie.Need-slice-aggregate-search-by-3 Inv-loop μ-loop
+slice-aggregate-search-by-3 c = search needs
 
-search-column-requires : tie.Need-search-column-requires Inv-loop μ-loop
-search-column-requires c κs =
+search-by-requires : tie.Need-search-by-requires Inv-loop μ-loop
+search-by-requires c κs =
     let turn = c .before .before .before .before .before .before .before .before .before in
     let made = turn .before .before .before .before in
     let start = made .before in
@@ -89,14 +90,14 @@ search-column-requires c κs =
     let j = turn .loop .j in
     let long : j < length work = omega (arith, start .pre .2 .many, c .before .before .before .before .before .before .before .before .loop-test .taken) in
     let soft = all-at (λ x. (length x ≡ 30) × Soft x) work j [] (start .pre .2 .soft) long in
-    (start .pre .1, (column-searchable (searchOf (start .args .in-supercodes)) (start .args .level) (start .pre .0) _ _ _ _ (soft .0) (soft-column (getD work j []) soft) (made .tables-of .ensures), turn .loop .inv .1))
+    (start .pre .1, (start .pre .0, (column-searchable (searchOf (start .args .way .«in_supercodes»)) (start .args .level) (start .pre .0) _ _ _ _ (soft .0) (soft-column (getD work j []) soft) (made .tables-of .ensures), turn .loop .inv .1)))
 
 enter-requires : tie.Need-enter-requires Inv-loop μ-loop
 enter-requires c κs =
     let made = c .before .before .before .before .before .before .before .before .before .before .before .before .before .before in
     let start = made .before in
-    let kind = searchOf (start .args .in-supercodes) in
-    (start .pre .0, word-in-range kind _ (start .args .level) (start .pre .0) _ (c .search-column .result) (c .search-column .ensures .1 kind (start .args .level) (start .pre .0) (made .tables-of .ensures)))
+    let way = start .args .way in
+    (start .pre .0, word-in-range (choiceOf way) (searchOf (way .«in_supercodes»)) _ (start .args .level) (start .pre .0) _ (c .search-by .result) (c .search-by .ensures .1 (searchOf (way .«in_supercodes»)) (made .tables-of .ensures)))
 
 element-write-symbols : tie.Need-element-write-symbols Inv-loop μ-loop
 element-write-symbols c = search needs
@@ -123,7 +124,7 @@ loop-again c =
     let j63 = found .before .before .before .before .before .before .before .before .before .loop-test .taken in
     let entry = c .before .before .enter .ensures in
     let few : c .before .before .enter .result .count ≤ 2000 = omega (arith, entry .2 ∙ ap count (searched-is found), count-few turn) in
-    (one-more-read _ _ _ _ _ _ _ _ _ _ _ _ _ _ (turn .loop .inv .0) j63 (searched-is found) (entry .0) (entry .1) (entry .2) (toZ-ofZ (record { sfits = c .struct-told .given .1 .1 .1 .0 .1 }) ∙ entry .3) few, found .search-column .ensures .0)
+    (one-more-read _ _ _ _ _ _ _ _ _ _ _ _ _ _ (turn .loop .inv .0) j63 (searched-is found) (entry .0) (entry .1) (entry .2) (toZ-ofZ (record { sfits = c .struct-told .given .1 .1 .1 .0 .1 }) ∙ entry .3) few, found .search-by .ensures .0)
 
 returns : tie.Need-returns Inv-loop μ-loop
 returns c =
@@ -139,10 +140,10 @@ read-row-spec =
     loop-holds
     mul-column
     element-copy-out-column
-    slice-aggregate-search-column
-    slice-aggregate-search-column-2
-    slice-aggregate-search-column-3
-    search-column-requires
+    slice-aggregate-search-by
+    slice-aggregate-search-by-2
+    slice-aggregate-search-by-3
+    search-by-requires
     enter-requires
     element-write-symbols
     element-write-marks

@@ -1,4 +1,5 @@
 -- `station::station_ask_page_limit` meets its contract: the entry's own lengths, then the call. Assumes nothing.
+use Rattle.trellis.specs.TwoWords.{off}
 use Rattle.page.specs.Outcomes.{symbolBuffer}
 use Rattle.station.proofs.Asked.{number-is-small}
 use Rattle.station.proofs.PageReturns.{refused-by-length, report-may-be-written, returned-by-the-call}
@@ -18,7 +19,7 @@ returned-number-requires c κs =
 returns : tie.Need-returns
 returns c =
     let args = c .before .before .before .before .before .before .args in
-    refused-by-length symbolBuffer (args .soft .now) (args .limit) (args .symbols .now) (args .report .now) _ (c .before .before .lengths-asked .ensures) (c .before .if1 .taken) (c .returned-number .ensures)
+    refused-by-length symbolBuffer off (args .soft .now) (args .limit) (args .symbols .now) (args .report .now) _ (c .before .before .lengths-asked .ensures) (c .before .if1 .taken) (c .returned-number .ensures)
 
 ask-page-requires : tie.Need-ask-page-requires
 ask-page-requires c κs = search needs
@@ -26,7 +27,7 @@ ask-page-requires c κs = search needs
 returned-page-requires : tie.Need-returned-page-requires
 returned-page-requires c κs =
     let args = c .before .before .before .before .before .before .before .before .before .before .args in
-    report-may-be-written symbolBuffer (args .soft .now) _ (args .symbols .now) (args .report .now) _ (c .before .before .before .before .before .before .lengths-asked .ensures) (c .before .before .before .before .before .if1 .left) _ _ (c .before .before .before .ask-page .ensures)
+    report-may-be-written symbolBuffer off (args .soft .now) _ (args .symbols .now) (args .report .now) _ (c .before .before .before .before .before .before .lengths-asked .ensures) (c .before .before .before .before .before .if1 .left) _ _ (c .before .before .before .ask-page .ensures)
 
 same-length : tie.Need-same-length
 same-length c = search needs
@@ -37,7 +38,7 @@ same-length-2 c = search needs
 returns-2 : tie.Need-returns-2
 returns-2 c =
     let args = c .before .before .before .before .before .before .before .before .before .before .before .before .before .args in
-    returned-by-the-call symbolBuffer (args .soft .now) (args .limit) (args .symbols .now) (args .report .now) _ (c .before .before .before .before .before .before .before .before .before .lengths-asked .ensures) (c .before .before .before .before .before .before .before .before .if1 .left) _ _ (c .before .before .before .before .before .before .ask-page .ensures) _ _ (c .before .before .returned-page .ensures)
+    returned-by-the-call symbolBuffer off (args .soft .now) (args .limit) (args .symbols .now) (args .report .now) _ (c .before .before .before .before .before .before .before .before .before .lengths-asked .ensures) (c .before .before .before .before .before .before .before .before .if1 .left) _ _ (c .before .before .before .before .before .before .ask-page .ensures) _ _ (c .before .before .returned-page .ensures)
 
 pub station-ask-page-limit-spec : {M : Type 1} → statement M
 station-ask-page-limit-spec =

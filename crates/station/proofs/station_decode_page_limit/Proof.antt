@@ -1,4 +1,5 @@
 -- `station::station_decode_page_limit` meets its contract: the entry's own lengths, then the call. Assumes nothing.
+use Rattle.trellis.specs.TwoWords.{off}
 use Rattle.page.specs.Outcomes.{dataBuffer}
 use Rattle.station.proofs.Asked.{number-is-small}
 use Rattle.station.proofs.PageReturns.{refused-by-length, report-may-be-written, returned-by-the-call}
@@ -18,7 +19,7 @@ returned-number-requires c κs =
 returns : tie.Need-returns
 returns c =
     let args = c .before .before .before .before .before .before .args in
-    refused-by-length dataBuffer (args .soft .now) (args .limit) (args .«data» .now) (args .report .now) _ (c .before .before .lengths-asked .ensures) (c .before .if1 .taken) (c .returned-number .ensures)
+    refused-by-length dataBuffer off (args .soft .now) (args .limit) (args .«data» .now) (args .report .now) _ (c .before .before .lengths-asked .ensures) (c .before .if1 .taken) (c .returned-number .ensures)
 
 decode-page-requires : tie.Need-decode-page-requires
 decode-page-requires c κs = search needs
@@ -26,7 +27,7 @@ decode-page-requires c κs = search needs
 returned-page-requires : tie.Need-returned-page-requires
 returned-page-requires c κs =
     let args = c .before .before .before .before .before .before .before .before .before .before .args in
-    report-may-be-written dataBuffer (args .soft .now) _ (args .«data» .now) (args .report .now) _ (c .before .before .before .before .before .before .lengths-asked .ensures) (c .before .before .before .before .before .if1 .left) _ _ (c .before .before .before .decode-page .ensures)
+    report-may-be-written dataBuffer off (args .soft .now) _ (args .«data» .now) (args .report .now) _ (c .before .before .before .before .before .before .lengths-asked .ensures) (c .before .before .before .before .before .if1 .left) _ _ (c .before .before .before .decode-page .ensures)
 
 same-length : tie.Need-same-length
 same-length c = search needs
@@ -37,7 +38,7 @@ same-length-2 c = search needs
 returns-2 : tie.Need-returns-2
 returns-2 c =
     let args = c .before .before .before .before .before .before .before .before .before .before .before .before .before .args in
-    returned-by-the-call dataBuffer (args .soft .now) (args .limit) (args .«data» .now) (args .report .now) _ (c .before .before .before .before .before .before .before .before .before .lengths-asked .ensures) (c .before .before .before .before .before .before .before .before .if1 .left) _ _ (c .before .before .before .before .before .before .decode-page .ensures) _ _ (c .before .before .returned-page .ensures)
+    returned-by-the-call dataBuffer off (args .soft .now) (args .limit) (args .«data» .now) (args .report .now) _ (c .before .before .before .before .before .before .before .before .before .lengths-asked .ensures) (c .before .before .before .before .before .before .before .before .if1 .left) _ _ (c .before .before .before .before .before .before .decode-page .ensures) _ _ (c .before .before .returned-page .ensures)
 
 pub station-decode-page-limit-spec : {M : Type 1} → statement M
 station-decode-page-limit-spec =

@@ -1,11 +1,13 @@
 -- `store_pages::decode_either` meets its contract: by the answer of the questions. Assumes nothing.
-use mathlib.Core.Path.{sym, _∙_}
+use mathlib.Core.Path.{sym, ap, _∙_, subst⁻¹}
+use Prim.Native.Nat.{ℕ, _≤_}
 use lib.Dec.{eqb}
 use lib.ListN.{length}
 use borrow.Author.Tests.{eqb-true}
 use Rattle.search.specs.Outcomes.{searchOf}
-use Rattle.page.specs.Outcomes.{dataBuffer}
-use Rattle.store_pages.proofs.Asked.{ready, refused-as, filled-as}
+use Rattle.list_of_two.specs.Ways.{chosen}
+use Rattle.page.specs.Outcomes.{dataBuffer, filled, outcomeOf}
+use Rattle.store_pages.proofs.Asked.{ready, refused-as, filled-as, page-in-its-way, as-handed-on}
 use borrow.Author.Needs.{needs}
 use Rattle.store_pages.proofs.decode_either.Statement.{statement}
 use Rattle.store_pages.proofs.decode_either.Tie as tie
@@ -16,11 +18,19 @@ page-questions-requires c κs = search needs
 enum-told : tie.Need-enum-told
 enum-told c = search needs
 
+way-of-requires : tie.Need-way-of-requires
+way-of-requires c κs =
+    let told = c .before .before in
+    let args = told .before .before .before .args in
+    ready (chosen (args .second) _) (args .soft .now) (args .limit) (eqb (length (args .«data» .now)) 150) (sym (told .page-questions .ensures) ∙ c .enum-told .given .1) .in-range
+
 decode-page-requires : tie.Need-decode-page-requires
 decode-page-requires c κs =
-    let args = c .before .before .before .before .before .before .args in
-    let ok = ready (args .soft .now) (args .limit) (eqb (length (args .«data» .now)) 150) (sym (c .before .before .before .page-questions .ensures) ∙ c .before .enum-told .given .1) in
-    (ok .long, ok .values, ok .most, eqb-true _ _ (ok .has-room))
+    let done = c .before .before in
+    let told = done .before .before in
+    let args = told .before .before .before .args in
+    let ok = ready (chosen (args .second) _) (args .soft .now) (args .limit) (eqb (length (args .«data» .now)) 150) (sym (told .page-questions .ensures) ∙ done .enum-told .given .1) in
+    (ok .long, ok .values, subst⁻¹ (λ (l : ℕ). l ≤ 2000) (c .before .way-of .ensures .0) (ok .most), eqb-true _ _ (ok .has-room))
 
 enum-known-n : tie.Need-enum-known-n
 enum-known-n c = search needs
@@ -33,15 +43,21 @@ same-length c = search needs
 
 returns : tie.Need-returns
 returns c =
-    let args = c .before .before .before .before .before .before .before .before .before .args in
-    let page = c .before .before .decode-page .ensures in
-    filled-as dataBuffer (searchOf (args .in-supercodes)) (args .soft .now) (args .limit) (args .«data» .now) (sym (c .before .before .before .before .enum-told .given .1) ∙ c .before .before .before .before .before .before .page-questions .ensures) _ _ (page .0) (page .1)
+    let page = c .before .before in
+    let made = page .before .before in
+    let done = made .before in
+    let told = done .before .before in
+    let start = told .before .before .before in
+    let args = start .args in
+    let in-its-way = page-in-its-way (made .way-of .result) (chosen (args .second) _) (args .in-supercodes) (args .limit) (made .way-of .ensures) (args .soft .now) in
+    as-handed-on (args .second) (args .threshold) (start .fits .threshold) (filled-as dataBuffer (chosen (args .second) _) (searchOf (args .in-supercodes)) (args .soft .now) (args .limit) (args .«data» .now) (sym (done .enum-told .given .1) ∙ told .page-questions .ensures) _ _ (page .decode-page .ensures .0 ∙ ap outcomeOf in-its-way) (page .decode-page .ensures .1 ∙ ap (filled dataBuffer (args .«data» .now)) in-its-way))
 
 returns-2 : tie.Need-returns-2
 returns-2 c =
-    let args = c .before .before .before .before .before .before .before .args in
+    let start = c .before .before .before .before .before .before .before in
+    let args = start .args in
     let told = c .before .before .n .given in
-    refused-as dataBuffer (searchOf (args .in-supercodes)) (args .soft .now) (args .limit) (args .«data» .now) (told .0 .0) (told .0 .1 .0) (sym (told .1) ∙ c .before .before .before .before .page-questions .ensures) _ (c .refused .ensures)
+    as-handed-on (args .second) (args .threshold) (start .fits .threshold) (refused-as dataBuffer (chosen (args .second) _) (searchOf (args .in-supercodes)) (args .soft .now) (args .limit) (args .«data» .now) (told .0 .0) (told .0 .1 .0) (sym (told .1) ∙ c .before .before .before .before .page-questions .ensures) _ (c .refused .ensures))
 
 pub decode-either-spec : {M : Type 1} → statement M
 decode-either-spec =
@@ -49,6 +65,7 @@ decode-either-spec =
     (tie.spec
     page-questions-requires
     enum-told
+    way-of-requires
     decode-page-requires
     enum-known-n
     refused-requires

@@ -1,6 +1,7 @@
 -- `store_pages::page_questions` meets its contract: each return rewrites with the tests that led there. Assumes nothing.
 use mathlib.Core.Path.{ap, _∙_}
 use Prim.Native.Nat.{_≤_, _<_}
+use Rattle.list_of_two.proofs.Thresholds.{allowed-is}
 use Rattle.questions.specs.Questions.{firstAbove}
 use Rattle.questions.specs.declared.Outcome.the-variants.{Refused}
 use borrow.Author.Tests.{eq-eqb, ne-eqb, le-leb, lt-leb, not-true, not-false}
@@ -27,26 +28,53 @@ returns-4 c =
     let high : 2000 < args .limit = omega (arith, c .if4 .taken) in
     simp (eq-eqb _ _ (c .before .before .before .if1 .left), not-false (args .room) (c .before .before .if2 .left), le-leb _ _ some, lt-leb _ _ high)
 
-first-above-requires : tie.Need-first-above-requires
-first-above-requires c κs = search needs
+threshold-allowed-requires : tie.Need-threshold-allowed-requires
+threshold-allowed-requires c κs = search needs
 
 returns-5 : tie.Need-returns-5
 returns-5 c =
-    let args = c .before .before .before .before .before .before .before .args in
+    let start = c .before .before .before .before .before .before .before in
+    let args = start .args in
     let some : 1 ≤ args .limit = omega (arith, c .before .before .before .if3 .left) in
     let most : args .limit ≤ 2000 = omega (arith, c .before .before .if4 .left) in
-    let bad : firstAbove (args .soft .now) 7 < 1890 = omega (arith, c .before .first-above .ensures, c .if5 .taken) in
-    ap (Refused 5) (c .before .first-above .ensures) ∙ simp (eq-eqb _ _ (c .before .before .before .before .before .if1 .left), not-false (args .room) (c .before .before .before .before .if2 .left), le-leb _ _ some, le-leb _ _ most, lt-leb _ _ bad)
+    let no = allowed-is (args .second) (args .threshold) (start .fits .threshold) (c .before .threshold-allowed .ensures) ∙ not-true _ (c .if5 .taken) in
+    simp (eq-eqb _ _ (c .before .before .before .before .before .if1 .left), not-false (args .room) (c .before .before .before .before .if2 .left), le-leb _ _ some, le-leb _ _ most, no)
+
+first-above-requires : tie.Need-first-above-requires
+first-above-requires c κs = search needs
 
 returns-6 : tie.Need-returns-6
 returns-6 c =
-    let args = c .before .before .before .before .before .before .before .args in
-    let some : 1 ≤ args .limit = omega (arith, c .before .before .before .if3 .left) in
-    let most : args .limit ≤ 2000 = omega (arith, c .before .before .if4 .left) in
-    let good : 1890 ≤ firstAbove (args .soft .now) 7 = omega (arith, c .before .first-above .ensures, c .if5 .left) in
-    simp (eq-eqb _ _ (c .before .before .before .before .before .if1 .left), not-false (args .room) (c .before .before .before .before .if2 .left), le-leb _ _ some, le-leb _ _ most, le-leb _ _ good)
+    let allowed = c .before .before in
+    let start = allowed .before .before .before .before .before .before .before in
+    let args = start .args in
+    let some : 1 ≤ args .limit = omega (arith, allowed .before .before .before .if3 .left) in
+    let most : args .limit ≤ 2000 = omega (arith, allowed .before .before .if4 .left) in
+    let in-range = allowed-is (args .second) (args .threshold) (start .fits .threshold) (allowed .before .threshold-allowed .ensures) ∙ not-false _ (allowed .if5 .left) in
+    let bad : firstAbove (args .soft .now) 7 < 1890 = omega (arith, c .before .first-above .ensures, c .if6 .taken) in
+    ap (Refused 5) (c .before .first-above .ensures) ∙ simp (eq-eqb _ _ (allowed .before .before .before .before .before .if1 .left), not-false (args .room) (allowed .before .before .before .before .if2 .left), le-leb _ _ some, le-leb _ _ most, in-range, lt-leb _ _ bad)
+
+returns-7 : tie.Need-returns-7
+returns-7 c =
+    let allowed = c .before .before in
+    let start = allowed .before .before .before .before .before .before .before in
+    let args = start .args in
+    let some : 1 ≤ args .limit = omega (arith, allowed .before .before .before .if3 .left) in
+    let most : args .limit ≤ 2000 = omega (arith, allowed .before .before .if4 .left) in
+    let in-range = allowed-is (args .second) (args .threshold) (start .fits .threshold) (allowed .before .threshold-allowed .ensures) ∙ not-false _ (allowed .if5 .left) in
+    let good : 1890 ≤ firstAbove (args .soft .now) 7 = omega (arith, c .before .first-above .ensures, c .if6 .left) in
+    simp (eq-eqb _ _ (allowed .before .before .before .before .before .if1 .left), not-false (args .room) (allowed .before .before .before .before .if2 .left), le-leb _ _ some, le-leb _ _ most, in-range, le-leb _ _ good)
 
 pub page-questions-spec : {M : Type 1} → statement M
 page-questions-spec =
     tie.close
-    (tie.spec returns returns-2 returns-3 returns-4 first-above-requires returns-5 returns-6)
+    (tie.spec
+    returns
+    returns-2
+    returns-3
+    returns-4
+    threshold-allowed-requires
+    returns-5
+    first-above-requires
+    returns-6
+    returns-7)

@@ -6,10 +6,10 @@ use borrow.Author.Needs.{needs}
 use Rattle.store_searches.proofs.search_by_tables.Statement.{statement}
 use Rattle.store_searches.proofs.search_by_tables.Tie as tie
 
-search-column-requires : tie.Need-search-column-requires
-search-column-requires c κs =
+search-by-requires : tie.Need-search-by-requires
+search-by-requires c κs =
     let start = c .before .before .before .before .before .before in
-    (start .pre .0, (start .pre .1, record { sums = refl; lens = refl; bits = refl }))
+    (start .pre .0, (start .pre .1 .0, (start .pre .1 .1, record { sums = refl; lens = refl; bits = refl })))
 
 enum-known-found : tie.Need-enum-known-found
 enum-known-found c = search needs
@@ -18,12 +18,12 @@ enum-told : tie.Need-enum-told
 enum-told c = search needs
 
 returns : tie.Need-returns
-returns c = λ s i h tables. found-answer _ _ _ _ _ (sym (c .before .found .given .1) ∙ c .before .before .before .search-column .ensures .1 s i h tables) (toZ-ofZ (record { sfits = c .known-told .given .1 .1 .0 .1 }))
+returns c = λ s tables. found-answer _ _ _ _ _ (sym (c .before .found .given .1) ∙ c .before .before .before .search-by .ensures .1 s tables) (toZ-ofZ (record { sfits = c .known-told .given .1 .1 .0 .1 }))
 
 returns-2 : tie.Need-returns-2
-returns-2 c = λ s i h tables. spent-answer _ (sym (c .enum-told .given .1) ∙ c .before .before .search-column .ensures .1 s i h tables)
+returns-2 c = λ s tables. spent-answer _ (sym (c .enum-told .given .1) ∙ c .before .before .search-by .ensures .1 s tables)
 
 pub search-by-tables-spec : {M : Type 1} → statement M
 search-by-tables-spec =
     tie.close
-    (tie.spec search-column-requires enum-known-found enum-told returns returns-2)
+    (tie.spec search-by-requires enum-known-found enum-told returns returns-2)

@@ -1,11 +1,12 @@
 -- `store_searches::search_either` meets its contract: each return rewrites with the tests that led there; the tables are those of the search. Assumes nothing.
-use mathlib.Core.Path.{subst}
+use mathlib.Core.Path.{sym, _∙_, subst, subst⁻¹}
 use Prim.Native.Nat.{ℕ, _≤_, _<_}
-use borrow.Author.Tests.{eq-eqb, ne-eqb, le-ltb, lt-ltb, le-leb, lt-leb}
+use borrow.Author.Tests.{eq-eqb, ne-eqb, le-ltb, lt-ltb, le-leb, lt-leb, not-true, not-false}
 use Rattle.search.specs.Outcomes.{searchOf}
 use Rattle.questions.specs.Questions.{firstAbove}
 use Rattle.search.proofs.ShortSearch.{column-searchable}
-use Rattle.store_searches.proofs.Outcomes.{asked-range}
+use Rattle.list_of_two.proofs.Thresholds.{allowed-is, handed-on}
+use Rattle.store_searches.proofs.Outcomes.{asked-range, by-its-way}
 use borrow.Author.Needs.{needs}
 use Rattle.store_searches.proofs.search_either.Statement.{statement}
 use Rattle.store_searches.proofs.search_either.Tie as tie
@@ -22,42 +23,65 @@ returns-3 c = simp (eq-eqb _ _ (c .before .before .if1 .left), lt-ltb _ _ (c .be
 returns-4 : tie.Need-returns-4
 returns-4 c = simp (eq-eqb _ _ (c .before .before .before .if1 .left), lt-ltb _ _ (c .before .before .if2 .left), le-leb _ _ (c .before .if3 .left), lt-leb _ _ (c .if4 .taken))
 
-first-above-requires : tie.Need-first-above-requires
-first-above-requires c κs = search needs
+threshold-allowed-requires : tie.Need-threshold-allowed-requires
+threshold-allowed-requires c κs = search needs
 
 returns-5 : tie.Need-returns-5
 returns-5 c =
-    let place = c .before .first-above in
     let asked = c .before .before in
-    let soft = asked .before .before .before .before .before .args .soft .now in
-    let bad : firstAbove soft 7 < 30 = subst (λ (t : ℕ). t < 30) (place .ensures) (c .if5 .taken) in
-    simp (eq-eqb _ _ (asked .before .before .before .if1 .left), lt-ltb _ _ (asked .before .before .if2 .left), le-leb _ _ (asked .before .if3 .left), le-leb _ _ (asked .if4 .left), lt-leb _ _ bad, place .ensures)
+    let start = asked .before .before .before .before .before in
+    let no = allowed-is (start .args .second) (start .args .threshold) (start .fits .threshold) (c .before .threshold-allowed .ensures) ∙ not-true _ (c .if5 .taken) in
+    simp (eq-eqb _ _ (asked .before .before .before .if1 .left), lt-ltb _ _ (asked .before .before .if2 .left), le-leb _ _ (asked .before .if3 .left), le-leb _ _ (asked .if4 .left), no)
+
+first-above-requires : tie.Need-first-above-requires
+first-above-requires c κs = search needs
+
+returns-6 : tie.Need-returns-6
+returns-6 c =
+    let place = c .before .first-above in
+    let allowed = c .before .before in
+    let asked = allowed .before .before in
+    let start = asked .before .before .before .before .before in
+    let bad : firstAbove (start .args .soft .now) 7 < 30 = subst (λ (t : ℕ). t < 30) (place .ensures) (c .if6 .taken) in
+    let in-range = allowed-is (start .args .second) (start .args .threshold) (start .fits .threshold) (allowed .before .threshold-allowed .ensures) ∙ not-false _ (allowed .if5 .left) in
+    simp (eq-eqb _ _ (asked .before .before .before .if1 .left), lt-ltb _ _ (asked .before .before .if2 .left), le-leb _ _ (asked .before .if3 .left), le-leb _ _ (asked .if4 .left), in-range, lt-leb _ _ bad, place .ensures)
 
 tables-of-requires : tie.Need-tables-of-requires
 tables-of-requires c κs = search needs
 
+way-of-requires : tie.Need-way-of-requires
+way-of-requires c κs =
+    let allowed = c .before .before .before .before .before .before in
+    sym (allowed .before .threshold-allowed .ensures) ∙ not-false _ (allowed .if5 .left)
+
 search-by-tables-requires : tie.Need-search-by-tables-requires
 search-by-tables-requires c κs =
-    let made = c .before .before .before .before .before .before in
-    let good = made .before in
-    let asked = good .before .before in
-    let start = asked .before .before .before .before .before in
-    let soft = start .args .soft .now in
-    let in-range : 30 ≤ firstAbove soft 7 = subst (λ (t : ℕ). 30 ≤ t) (good .before .first-above .ensures) (good .if5 .left) in (
-      asked .if4 .left,
-      column-searchable (searchOf (start .args .in-supercodes)) (start .args .level) (asked .before .before .if2 .left) soft _ _ _ (asked .before .before .before .if1 .left) (asked-range soft in-range) (made .tables-of .ensures),
-    )
-
-returns-6 : tie.Need-returns-6
-returns-6 c =
     let made = c .before .before .before .before .before .before .before in
     let good = made .before in
-    let asked = good .before .before in
+    let asked = good .before .before .before .before in
     let start = asked .before .before .before .before .before in
     let soft = start .args .soft .now in
-    let in-range : 30 ≤ firstAbove soft 7 = subst (λ (t : ℕ). 30 ≤ t) (good .before .first-above .ensures) (good .if5 .left) in
-    let found = c .search-by-tables .ensures (searchOf (start .args .in-supercodes)) (start .args .level) (asked .before .before .if2 .left) (made .tables-of .ensures) in
-    simp (eq-eqb _ _ (asked .before .before .before .if1 .left), lt-ltb _ _ (asked .before .before .if2 .left), le-leb _ _ (asked .before .if3 .left), le-leb _ _ (asked .if4 .left), le-leb _ _ in-range, found)
+    let in-range : 30 ≤ firstAbove soft 7 = subst (λ (t : ℕ). 30 ≤ t) (good .before .first-above .ensures) (good .if6 .left) in (
+      subst⁻¹ (λ (l : ℕ). l ≤ 2000) (c .before .before .before .way-of .ensures .0) (asked .if4 .left),
+      (
+        asked .before .before .if2 .left,
+        column-searchable (searchOf (start .args .in-supercodes)) (start .args .level) (asked .before .before .if2 .left) soft _ _ _ (asked .before .before .before .if1 .left) (asked-range soft in-range) (made .tables-of .ensures),
+      ),
+    )
+
+returns-7 : tie.Need-returns-7
+returns-7 c =
+    let made = c .before .before .before .before .before .before .before .before in
+    let good = made .before in
+    let allowed = good .before .before in
+    let asked = allowed .before .before in
+    let start = asked .before .before .before .before .before in
+    let soft = start .args .soft .now in
+    let values-in-range : 30 ≤ firstAbove soft 7 = subst (λ (t : ℕ). 30 ≤ t) (good .before .first-above .ensures) (good .if6 .left) in
+    let in-range = allowed-is (start .args .second) (start .args .threshold) (start .fits .threshold) (allowed .before .threshold-allowed .ensures) ∙ not-false _ (allowed .if5 .left) in
+    let way = c .before .before .before .before .way-of .ensures in
+    let found = c .search-by-tables .ensures (searchOf (start .args .in-supercodes)) (made .tables-of .ensures) ∙ by-its-way (c .before .before .before .before .way-of .result) _ _ (way .2 ∙ handed-on (start .args .second) (start .args .threshold) (start .fits .threshold)) (way .0) (searchOf (start .args .in-supercodes)) soft (start .args .level) in
+    simp (eq-eqb _ _ (asked .before .before .before .if1 .left), lt-ltb _ _ (asked .before .before .if2 .left), le-leb _ _ (asked .before .if3 .left), le-leb _ _ (asked .if4 .left), in-range, le-leb _ _ values-in-range, found)
 
 pub search-either-spec : {M : Type 1} → statement M
 search-either-spec =
@@ -67,8 +91,11 @@ search-either-spec =
     returns-2
     returns-3
     returns-4
-    first-above-requires
+    threshold-allowed-requires
     returns-5
+    first-above-requires
+    returns-6
     tables-of-requires
+    way-of-requires
     search-by-tables-requires
-    returns-6)
+    returns-7)

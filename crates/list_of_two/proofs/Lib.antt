@@ -1,0 +1,4 @@
+pub mod TwoRuns
+pub mod Reading
+pub mod Thresholds
+pub mod ShortTwo

@@ -1,0 +1,265 @@
+// List of two: 02, point 1. A hard reading that is a word is returned unsearched; else the search may go on, from where it stands, to a second word.
+//
+// The argument. `search::run` goes on past a word as the search of the specification does, on the same stack; so two calls of it are the first and the second search.
+// The lowest sum of all paths taken is the low point of the last word taken, as for a first word.
+
+ghost use mathlib.Core.Bool.{true};
+ghost use mathlib.Core.Path.{_≡_};
+ghost use Prim.Native.Nat.{ℕ, _<_, _≤_};
+ghost use lib.IntN.{pos, natAbs};
+ghost use lib.ListN.{length, getD};
+ghost use Rattle.column.specs.Shape.{short};
+ghost use Rattle.paths.specs.Low.{low-point};
+ghost use Rattle.trellis.specs.Values.{Values, levelValues};
+ghost use Rattle.trellis.specs.Order.{number, sum};
+ghost use Rattle.trellis.specs.Demand.{Search};
+ghost use Rattle.trellis.specs.TwoWords.{hardPath, searchedTwo, searchedBy, keySearchTwo, thresholdAllowed};
+ghost use Rattle.stack.specs.Places.{Room};
+ghost use Rattle.extension.specs.Steps.{Given, TableOf};
+ghost use Rattle.search.specs.Outcomes.{outcomeOf, codeOutcome, TablesFor, Searchable30};
+ghost use Rattle.list_of_two.specs.Ways.{chosen, choiceOf};
+use search::Progress;
+use search::SearchOutcome;
+
+// The search of a soft column for a first word and, if its sum is below the threshold, for a second one under the same limit; the arrays may hold anything.
+pub fn search_two(
+    sums: &mut [i16; 2002],
+    lens: &mut [u8; 2002],
+    bits: &mut [u64; 2002],
+    n: u8,
+    col: &[u8],
+    left: &[u64],
+    right: &[u64],
+    values: &[i16; 16],
+    threshold: i16,
+    limit: u64,
+) -> SearchOutcome
+    requires { ⌜ limit ≤ 2000 ⌝ }
+    requires { ⌜ Given n (now col) (now left) (now right) (now values) ⌝ }
+    requires { ⌜ Room (now sums) (now lens) (now bits) ⌝ }
+    ensures { λ r. ⌜ Room (now (sums .exit)) (now (lens .exit)) (now (bits .exit)) ⌝ }
+    ensures { λ r. ⌜ ((vs : Values) → TableOf vs (now (values .entry))
+        → r ≡ outcomeOf (keySearchTwo n vs (now (col .entry)) (now (left .entry)) (now (right .entry)) threshold limit)) ⌝ }
+{
+    let start = Progress {
+        paths: 0,
+        count: 0,
+        sum: 0,
+        len: 0,
+        bits: 0,
+        low: search::NONE_TAKEN,
+    };
+    let first = search::run(
+        &mut *sums,
+        &mut *lens,
+        &mut *bits,
+        n,
+        col,
+        left,
+        right,
+        values,
+        start,
+        limit,
+    );
+    if first.len != n {
+        return SearchOutcome::Spent;
+    }
+    if first.sum < threshold {
+        let second = search::run(
+            &mut *sums,
+            &mut *lens,
+            &mut *bits,
+            n,
+            col,
+            left,
+            right,
+            values,
+            first,
+            limit,
+        );
+        if second.len != n {
+            return SearchOutcome::Found {
+                word: first.bits,
+                count: limit,
+                low: first.low,
+            };
+        }
+        // with no step left the last path taken is still the first word, whose sum is not above its own
+        if first.sum < second.sum {
+            return SearchOutcome::Found {
+                word: second.bits,
+                count: second.count,
+                low: second.low,
+            };
+        }
+        return SearchOutcome::Found {
+            word: first.bits,
+            count: second.count,
+            low: first.low,
+        };
+    }
+    SearchOutcome::Found {
+        word: first.bits,
+        count: first.count,
+        low: first.low,
+    }
+}
+
+// The hard reading of a soft column, as a column's number.
+fn hard_reading(soft: &[u8]) -> u64
+    requires { ⌜ length (now soft) ≡ 30 ⌝ }
+    requires { ⌜ ((k : ℕ) → k < 30 → getD (now soft) k 0 < 8) ⌝ }
+    ensures { λ r. ⌜ r ≡ number (hardPath (now (soft .entry)) 30) ⌝ }
+{
+    let mut word: u64 = 0;
+    let mut k: usize = 0;
+    while k < 30 {
+        word = word * 2 + (soft[k] / 4) as u64;
+        k += 1;
+    }
+    word
+}
+
+// The low point of the hard reading of a soft column.
+fn low_of_reading(soft: &[u8], values: &[i16; 16]) -> i16
+    requires { ⌜ length (now soft) ≡ 30 ⌝ }
+    requires { ⌜ ((k : ℕ) → k < 30 → getD (now soft) k 0 < 8) ⌝ }
+    requires { ⌜ ((k : ℕ) → k < 16 → natAbs (getD (now values) k (pos 0)) ≤ 60) ⌝ }
+    ensures { λ r. ⌜ ((vs : Values) → TableOf vs (now (values .entry)) → r ≡ low-point (sum vs (now (soft .entry))) (hardPath (now (soft .entry)) 30)) ⌝ }
+{
+    let mut sum: i16 = 0;
+    let mut low = search::NONE_TAKEN;
+    let mut k: usize = 0;
+    while k < 30 {
+        let q = soft[k] as usize;
+        sum += values[q / 4 * 8 + q];
+        low = search::lower(low, sum);
+        k += 1;
+    }
+    low
+}
+
+// The search of a soft column of the short page with list of two, by the tables that are lent.
+pub fn search_column(
+    sums: &mut [i16; 2002],
+    lens: &mut [u8; 2002],
+    bits: &mut [u64; 2002],
+    soft: &[u8],
+    level: usize,
+    left: &[u64],
+    right: &[u64],
+    values: &[i16; 16],
+    threshold: i16,
+    limit: u64,
+) -> SearchOutcome
+    requires { ⌜ limit ≤ 2000 ⌝ }
+    requires { ⌜ level < 4 ⌝ }
+    requires { ⌜ Searchable30 (now soft) (now left) (now right) (now values) ⌝ }
+    requires { ⌜ Room (now sums) (now lens) (now bits) ⌝ }
+    ensures { λ r. ⌜ Room (now (sums .exit)) (now (lens .exit)) (now (bits .exit)) ⌝ }
+    ensures { λ r. ⌜ ((s : Search) → TablesFor s level (now (left .entry)) (now (right .entry)) (now (values .entry))
+        → r ≡ codeOutcome (searchedTwo s short (levelValues level) threshold limit (now (soft .entry)) level)) ⌝ }
+{
+    let word = hard_reading(soft);
+    if column::is_word(level, word) {
+        return SearchOutcome::Found {
+            word: word,
+            count: 0,
+            low: low_of_reading(soft, values),
+        };
+    }
+    search_two(
+        sums,
+        lens,
+        bits,
+        30,
+        soft,
+        left,
+        right,
+        values,
+        threshold,
+        limit,
+    )
+}
+
+// How a column is searched: the limit, the search, and whether a second word may be sought, below which sum of the first.
+pub struct Way {
+    pub limit: u64,
+    pub in_supercodes: bool,
+    pub second: bool,
+    pub threshold: i16,
+}
+
+// Whether a call may be given the threshold; without list of two there is none to ask about.
+pub fn threshold_allowed(second: bool, threshold: i64) -> bool
+    ensures { λ r. ⌜ r ≡ thresholdAllowed (chosen second threshold) ⌝ }
+{
+    if !second {
+        return true;
+    }
+    if threshold < -2000 {
+        return false;
+    }
+    if 2000 < threshold {
+        return false;
+    }
+    true
+}
+
+// The way that a call's limit, flags and threshold name.
+pub fn way_of(limit: u64, in_supercodes: bool, second: bool, threshold: i64) -> Way
+    requires { ⌜ thresholdAllowed (chosen second threshold) ≡ true ⌝ }
+    ensures { λ r. ⌜ (r .limit ≡ limit) × (r .in_supercodes ≡ in_supercodes) × (choiceOf r ≡ chosen second threshold) ⌝ }
+{
+    if !second {
+        return Way {
+            limit: limit,
+            in_supercodes: in_supercodes,
+            second: false,
+            threshold: 0,
+        };
+    }
+    Way {
+        limit: limit,
+        in_supercodes: in_supercodes,
+        second: true,
+        threshold: threshold as i16,
+    }
+}
+
+// The search of a soft column of the short page in a given way, by the tables that are lent; the arrays may hold anything.
+pub fn search_by(
+    sums: &mut [i16; 2002],
+    lens: &mut [u8; 2002],
+    bits: &mut [u64; 2002],
+    soft: &[u8],
+    level: usize,
+    left: &[u64],
+    right: &[u64],
+    values: &[i16; 16],
+    way: Way,
+) -> SearchOutcome
+    requires { ⌜ way .limit ≤ 2000 ⌝ }
+    requires { ⌜ level < 4 ⌝ }
+    requires { ⌜ Searchable30 (now soft) (now left) (now right) (now values) ⌝ }
+    requires { ⌜ Room (now sums) (now lens) (now bits) ⌝ }
+    ensures { λ r. ⌜ Room (now (sums .exit)) (now (lens .exit)) (now (bits .exit)) ⌝ }
+    ensures { λ r. ⌜ ((s : Search) → TablesFor s level (now (left .entry)) (now (right .entry)) (now (values .entry))
+        → r ≡ codeOutcome (searchedBy (choiceOf way) s short (levelValues level) (way .limit) (now (soft .entry)) level)) ⌝ }
+{
+    if way.second {
+        return search_column(
+            sums,
+            lens,
+            bits,
+            soft,
+            level,
+            left,
+            right,
+            values,
+            way.threshold,
+            way.limit,
+        );
+    }
+    search::short_page::search_column(sums, lens, bits, soft, left, right, values, way.limit)
+}
