@@ -1,55 +1,113 @@
--- The short page's search with list of two, by lent tables, is 02's with the values of the level. Assumes nothing.
-use mathlib.Core.Bool.{Bool, true, false}
+-- The short page's search in a way, by lent tables, is 01's search, or 02's with list of two, with the values of the level. Assumes nothing.
+use mathlib.Core.Bool.{Bool, true, false, cond}
 use mathlib.Core.List.{List}
-use mathlib.Core.Path.{_≡_, sym, ap, ap₂, _∙_, subst, subst⁻¹}
-use Prim.Native.Nat.{ℕ, _<_}
-use lib.IntN.{ℤ}
+use mathlib.Core.Path.{_≡_, refl, sym, ap, ap₂, _∙_}
+use Prim.Native.Nat.{ℕ, _≤_, _<_}
+use native.Mathlib.Omega.{arith}
+use lib.IntN.{ℤ, pos, negsuc, natAbs}
+use lib.ListN.{length}
+use lib.Signed.{ltZ}
+use borrow.Author.Tests.{le-ltb}
 use mir.Syntax.{w16}
 use mir.Val.{SFits, toZ, ofZ}
 use mir.Facts.{toZ-ofZ}
 use Rattle.column.specs.Shape.{short}
 use Rattle.column.specs.Level.{isWord}
+use Rattle.paths.specs.Paths.{Path}
 use Rattle.paths.specs.Low.{low-point}
+use Rattle.paths.specs.Tree.{Tree}
+use Rattle.paths.specs.Search.{SearchResult, answer, spent, limited-search}
+use Rattle.paths.specs.Keys.{WithLow, key-with-low, with-key}
+use Rattle.paths.specs.TwoWords.{after-first, after-second, one-word, returned}
+use Rattle.paths.proofs.Limit.{answer-is-the-winner}
 use Rattle.trellis.specs.Values.{Values, levelValues}
 use Rattle.trellis.specs.Order.{number, sum}
-use Rattle.trellis.specs.Demand.{Search}
-use Rattle.trellis.specs.TwoWords.{Choice, off, on, hardPath, searchedTwo, searchedBy, keySearchTwo}
+use Rattle.trellis.specs.Keys.{Key, keyOf, keySearch}
+use Rattle.trellis.specs.Demand.{Search, trellis}
+use Rattle.trellis.specs.TwoWords.{Choice, off, on, hardPath, searchedBy, keySearchOn, keySearchTwo}
+use Rattle.trellis.proofs.Demand.{trellis-sound}
+use Rattle.trellis.proofs.Sums.{level-values-near, sum-near}
+use Rattle.trellis.proofs.Keys.{key-search-has-the-keys, keys-of-trellis}
 use Rattle.trellis.proofs.Short.{searchable}
+use Rattle.trellis.proofs.TwoKeys.{key-search-two-is-list-of-two, hard-reading-is-answered}
 use Rattle.extension.specs.Steps.{TableOf}
 use Rattle.search.specs.Outcomes.{outcomeOf, codeOutcome, TablesFor}
 use Rattle.search.specs.declared.SearchOutcome.{SearchOutcome}
 use Rattle.search.specs.declared.SearchOutcome.the-variants.{Found}
-use Rattle.search.proofs.ShortSearch.{by-number, level-table, level-not-above}
-use Rattle.list_of_two.specs.declared.Way.{Way}
-use Rattle.list_of_two.specs.Ways.{chosen, choiceOf}
-use Rattle.trellis.proofs.TwoKeys.{key-search-two-is-list-of-two, hard-reading-is-answered}
+use Rattle.search.proofs.ShortSearch.{by-number, level-table, level-not-above, search-short}
+use Rattle.list_of_two.specs.declared.HardReading.the-variants.{Word, NoWord}
+use Rattle.list_of_two.specs.Ways.{chosen, thresholdOf, unsearchedWord}
 
-module _ (i : ℕ) (h : i < 4) (soft left right : List ℕ) (table : List ℤ) (threshold : ℤ) (limit x : ℕ) (e : x ≡ number (hardPath soft 30)) (s : Search) (tables : TablesFor s i left right table) where
-  -- the hard reading is a word
-  pub word-is-returned : isWord short i x ≡ true → (z : ℤ) → SFits w16 z → ((vs : Values) → TableOf vs table → z ≡ low-point (sum vs soft) (hardPath soft 30))
-      → Found x 0 (toZ w16 (ofZ w16 z)) ≡ codeOutcome (searchedTwo s short (levelValues i) threshold limit soft i)
+-- a hard reading is a word or none
+never : {X : Type 0} (x : ℕ) → NoWord ≡ Word x → X
+never x e = let no : _≡_ {A = ℕ} 0 1 = cc in absurd (omega arith)
+
+-- what the code's test of the hard reading x says
+pub is-unsearched : (second : Bool) (threshold : ℤ) (i : ℕ) (soft : List ℕ) (x : ℕ) (b : Bool) → second ≡ true → x ≡ number (hardPath soft 30) → b ≡ isWord short i x
+    → cond b (Word x) NoWord ≡ unsearchedWord (chosen second threshold) i soft
+is-unsearched second threshold i soft x b with-list e f =
+    ap (λ (t : Bool). cond t (Word x) NoWord) f ∙ ap (λ (y : ℕ). cond (isWord short i y) (Word y) NoWord) e ∙ ap (λ (s : Bool). unsearchedWord (chosen s threshold) i soft) (sym with-list)
+
+-- no sum near zero is below −2,000
+near-is-not-below : (z : ℤ) → natAbs z ≤ 1800 → ltZ z (negsuc 1999) ≡ false
+near-is-not-below (pos n) h = refl
+near-is-not-below (negsuc n) h = le-ltb 1999 n (omega (arith, h))
+
+module _ (i : ℕ) (h : i < 4) (soft left right : List ℕ) (table : List ℤ) (limit : ℕ) (s : Search) (tables : TablesFor s i left right table) where
+  abbrev vs : Values
+  vs = levelValues i
+
+  -- the hard reading is a word, returned unsearched
+  pub word-is-returned : (choice : Choice) (x : ℕ) → unsearchedWord choice i soft ≡ Word x → (z : ℤ) → SFits w16 z → ((vs : Values) → TableOf vs table → z ≡ low-point (sum vs soft) (hardPath soft 30))
+      → Found x 0 (toZ w16 (ofZ w16 z)) ≡ codeOutcome (searchedBy choice s short (levelValues i) limit soft i)
   unfolding codeOutcome
-  word-is-returned w z fits low =
-      ap₂ (λ (y : ℕ). Found y 0) e (toZ-ofZ fits ∙ low (levelValues i) (level-table s i left right table tables))
-      ∙ sym (ap codeOutcome (hard-reading-is-answered short i (searchable i h) (levelValues i) soft s threshold limit (sym (ap (isWord short i) e) ∙ w)))
+  word-is-returned off x e z fits low = never x e
+  word-is-returned (on threshold) x e z fits low = go (isWord short i (number (hardPath soft 30))) refl e
+    where
+      go : (b : Bool) → isWord short i (number (hardPath soft 30)) ≡ b → cond b (Word (number (hardPath soft 30))) NoWord ≡ Word x
+          → Found x 0 (toZ w16 (ofZ w16 z)) ≡ codeOutcome (searchedBy (on threshold) s short (levelValues i) limit soft i)
+      go false is e = never x e
+      go true is e =
+          ap₂ (λ (y : ℕ). Found y 0) (sym cc) (toZ-ofZ fits ∙ low vs (level-table s i left right table tables))
+          ∙ sym (ap codeOutcome (hard-reading-is-answered short i (searchable i h) vs soft s threshold limit is))
 
-  -- it is none; the threshold was handed on
-  pub search-two-is : isWord short i x ≡ false → SFits w16 threshold → (r : SearchOutcome) → ((vs : Values) → TableOf vs table → r ≡ outcomeOf (keySearchTwo 30 vs soft left right (toZ w16 (ofZ w16 threshold)) limit))
-      → r ≡ codeOutcome (searchedTwo s short (levelValues i) threshold limit soft i)
-  search-two-is n fits r f =
-      f (levelValues i) (level-table s i left right table tables)
-      ∙ ap (λ (z : ℤ). outcomeOf (keySearchTwo 30 (levelValues i) soft left right z limit)) (toZ-ofZ fits)
-      ∙ by-number (keySearchTwo 30 (levelValues i) soft left right threshold limit)
-      ∙ ap codeOutcome (key-search-two-is-list-of-two short i (searchable i h) (levelValues i) soft left right s (tables .masks) (level-not-above i h soft) threshold limit (sym (ap (isWord short i) e) ∙ n))
+  abbrev t : Tree
+  t = trellis s short vs soft i
 
--- as a way chooses
-module _ (w : Way) (s : Search) (i : ℕ) (soft : List ℕ) (r : SearchOutcome) where
-  abbrev Is : Choice → Type 0
-  Is choice = r ≡ codeOutcome (searchedBy choice s short (levelValues i) (w .limit) soft i)
+  abbrev bySum : WithLow Key → ℤ
+  bySum k = k .key .sum
 
-  -- the threshold was handed on
-  pub with-second : w .second ≡ true → SFits w16 (w .threshold) → Is (on (toZ w16 (ofZ w16 (w .threshold)))) → Is (choiceOf w)
-  with-second e fits = subst⁻¹ (λ (b : Bool). Is (on (toZ w16 (ofZ w16 (w .threshold)))) → Is (chosen b (w .threshold))) e (subst (λ (z : ℤ). Is (on z)) (toZ-ofZ fits))
+  -- a word whose sum is not below the threshold is not followed by a second search
+  none-is-sought : (o : SearchResult Path) → ((w : Path) (c : ℕ) → o ≡ answer w c → ltZ (sum vs soft w) (negsuc 1999) ≡ false)
+      → returned bySum limit (after-first bySum (negsuc 1999) (keySearchOn 30 vs soft left right limit) (with-key (key-with-low t (keyOf vs soft)) o)) ≡ with-key (key-with-low t (keyOf vs soft)) o
+  unfolding after-first returned with-key keyOf
+  none-is-sought (answer w c) enough =
+      let k = key-with-low t (keyOf vs soft) w in
+      ap (λ (b : Bool). returned bySum limit (cond b (after-second bySum k (keySearchOn 30 vs soft left right limit c)) (one-word k c))) (enough w c refl)
+  none-is-sought (spent c) enough = refl
 
-  pub without-second : w .second ≡ false → Is off → Is (choiceOf w)
-  without-second e = subst⁻¹ (λ (b : Bool). Is off → Is (chosen b (w .threshold))) e (λ f. f)
+  -- so with the threshold that no sum is below the search is 01's
+  one-is-searched : keySearchTwo 30 vs soft left right (negsuc 1999) limit ≡ keySearch 30 vs soft left right limit
+  unfolding keySearchTwo
+  one-is-searched =
+      let given = searchable i h in
+      let sound = trellis-sound short i given vs soft s in
+      let found = key-search-has-the-keys vs soft left right t sound (keys-of-trellis short i given vs soft left right s (tables .masks)) (level-not-above i h soft) limit in
+      ap (λ (o : SearchResult (WithLow Key)). returned bySum limit (after-first bySum (negsuc 1999) (keySearchOn 30 vs soft left right limit) o)) found
+      ∙ none-is-sought (limited-search t limit) (λ w c e.
+      let long : length w ≡ 30 = answer-is-the-winner t sound w c limit e .0 .full .long in
+      near-is-not-below (sum vs soft w) (omega (arith, sum-near 60 vs (level-values-near i h) soft w, long)))
+      ∙ sym found
+
+  -- it is none: the column is searched
+  pub column-is-searched : (choice : Choice) → unsearchedWord choice i soft ≡ NoWord → (r : SearchOutcome) → ((vs : Values) → TableOf vs table → r ≡ outcomeOf (keySearchTwo 30 vs soft left right (thresholdOf choice) limit))
+      → r ≡ codeOutcome (searchedBy choice s short (levelValues i) limit soft i)
+  column-is-searched off e r f = search-short s i h soft left right table tables limit r (f vs (level-table s i left right table tables) ∙ ap outcomeOf one-is-searched)
+  column-is-searched (on threshold) e r f = go (isWord short i (number (hardPath soft 30))) refl e
+    where
+      go : (b : Bool) → isWord short i (number (hardPath soft 30)) ≡ b → cond b (Word (number (hardPath soft 30))) NoWord ≡ NoWord → r ≡ codeOutcome (searchedBy (on threshold) s short (levelValues i) limit soft i)
+      go true is e = never (number (hardPath soft 30)) (sym e)
+      go false is e =
+          f vs (level-table s i left right table tables)
+          ∙ by-number (keySearchTwo 30 vs soft left right threshold limit)
+          ∙ ap codeOutcome (key-search-two-is-list-of-two short i (searchable i h) vs soft left right s (tables .masks) (level-not-above i h soft) threshold limit is)

@@ -40,7 +40,7 @@ pub record Task : Type 0 where
   pub threshold : ℤ
   pub limit : ℕ
 
-abbrev K : Task → Nodes Key
+abbrev pub K : Task → Nodes Key
 K g = keyNodes (g .n) (g .vs) (g .soft) (g .left) (g .right)
 
 -- the first search, the second one after c paths, and what is returned
@@ -61,11 +61,44 @@ pub record First (g : Task) (f : ℕ → Key) (m c : ℕ) (y : Key) (z : ℤ) : 
   pub low-fits : SFits w16 z
   pub reached : Reached (K g) (g .n) (g .limit) f 0 (key (pos 0) 0 0) noneTaken [] m c y z
 
+-- where a search stands: how many paths are on the stack, how many were taken, the last of them, and their lowest sum
+pub record At : Type 0 where
+  pub paths : ℕ
+  pub count : ℕ
+  pub last : Key
+  pub low : ℤ
+
+abbrev pub at-start : At
+at-start = record { paths = 0; count = 0; last = key (pos 0) 0 0; low = noneTaken }
+
+-- a first word is taken, and its sum is below the threshold
+pub record Taken (g : Task) (f : ℕ → Key) (s : At) : Type 0 where
+  pub first : First g f (s .paths) (s .count) (s .last) (s .low)
+  pub full : s .last .len ≡ g .n
+  pub below : ltZ (handed (s .last .sum)) (handed (g .threshold)) ≡ true
+
+-- before a run: nothing is taken, or the first word, whatever the values are
+abbrev pub Before : (Values → Type 0) → (Values → Task) → (ℕ → Key) → At → Type 0
+Before Given task f s = (s ≡ at-start) ⊎ ((vs : Values) → Given vs → Taken (task vs) f s)
+
+module _ {Given : Values → Type 0} {task : Values → Task} {f : ℕ → Key} {s : At} (before : Before Given task f s) (vs : Values) (given : Given vs) where
+  pub at-the-start : (s .last .len ≡ task vs .n → ⊥) → s ≡ at-start
+  at-the-start partial = go before
+    where
+      go : Before Given task f s → s ≡ at-start
+      go (inl e) = e
+      go (inr t) = absurd (partial (t vs given .full))
+
+  pub after-a-word : 0 < task vs .n → s .last .len ≡ task vs .n → Taken (task vs) f s
+  after-a-word some full = go before
+    where
+      go : Before Given task f s → Taken (task vs) f s
+      go (inl e) = absurd (omega (arith, some, full, ap (λ (x : At). x .last .len) e))
+      go (inr t) = t vs given
+
 -- what a second run came to, after a word whose sum is below the threshold
 pub record Second (g : Task) (f : ℕ → Key) (m c : ℕ) (y : Key) (z : ℤ) (f′ : ℕ → Key) (m′ c′ : ℕ) (y′ : Key) (z′ : ℤ) : Type 0 where
-  pub first : First g f m c y z
-  pub full : y .len ≡ g .n
-  pub below : ltZ (handed (y .sum)) (handed (g .threshold)) ≡ true
+  pub taken : Taken g f (record { paths = m; count = c; last = y; low = z })
   pub sum-fits : SFits w16 (y′ .sum)
   pub low-fits : SFits w16 z′
   pub reached : (xs : List Key) → Holds Upto f m xs → Reached (K g) (g .n) (g .limit) f′ c y z xs m′ c′ y′ z′
@@ -110,14 +143,14 @@ module _ {g : Task} {f : ℕ → Key} {m c : ℕ} {y : Key} {z : ℤ} where
   module _ {f′ : ℕ → Key} {m′ c′ : ℕ} {y′ : Key} {z′ : ℤ} (b : Second g f m c y z f′ m′ c′ y′ z′) where
     -- the word that the first run took
     first : Answered (K g) (g .n) (g .limit) f 0 (key (pos 0) 0 0) noneTaken [] m c y z
-    first = word-is-taken (g .n) (g .limit) (g .vs) (g .soft) (g .left) (g .right) f m c y z (b .first .some) (b .first .reached) (b .full)
+    first = word-is-taken (g .n) (g .limit) (g .vs) (g .soft) (g .left) (g .right) f m c y z (b .taken .first .some) (b .taken .first .reached) (b .taken .full)
 
     -- the second search goes on from where the first stands
     on-is : on g c ≡ run-keys (K g) always (g .limit - c) c z (grow (K g) y (first .rest))
     unfolding keySearchOn first
     on-is =
         let steps : c - 0 ≡ c = omega arith in
-        let grown = start-grows (g .n) (g .vs) (g .soft) (g .left) (g .right) (b .first .some) in
+        let grown = start-grows (g .n) (g .vs) (g .soft) (g .left) (g .right) (b .taken .first .some) in
         ap₂ (run-keys (K g) always (g .limit - c) c) (sym (first .low-is ∙ ap₂ (λ (k : ℕ). low-after (K g) k noneTaken) steps grown)) (sym (first .stack ∙ ap₂ (stack-after (K g)) steps grown))
 
     -- a second word; or none, and the last path taken is no word or still the first, the limit being reached
@@ -145,16 +178,16 @@ module _ {g : Task} {f : ℕ → Key} {m c : ℕ} {y : Key} {z : ℤ} where
             let all : c′ ≡ g .limit = at-limit h (a .within) in
             inr ((short all (a .partial), c′, parts 0 (omega (arith, all)) ∙ a .same always 0))
         go (inr (inl a)) = inl ((a .full, parts (g .limit - c′) (omega (arith, a .within, a .later)) ∙ a .same always (g .limit - c′)))
-        go (inr (inr e)) = inr ((inl (omega (arith, e .none, b .first .some)), c′, parts (g .limit - c′) (omega (arith, e .within, e .later)) ∙ e .same always (g .limit - c′)))
+        go (inr (inr e)) = inr ((inl (omega (arith, e .none, b .taken .first .some)), c′, parts (g .limit - c′) (omega (arith, e .within, e .later)) ∙ e .same always (g .limit - c′)))
 
     -- what the second search came to, returned
     by-second : {o : SearchResult (WithLow Key)} → on g c ≡ o → outcomeOf (returned bySum (g .limit) (after-second bySum (with-low y z) o)) ≡ outcomeOf (two g)
-    by-second e = sym (ap outcomeOf (by-threshold (b .first) (b .full) (b .below) ∙ ap (λ (x : SearchResult (WithLow Key)). returned bySum (g .limit) (after-second bySum (with-low y z) x)) e))
+    by-second e = sym (ap outcomeOf (by-threshold (b .taken .first) (b .taken .full) (b .taken .below) ∙ ap (λ (x : SearchResult (WithLow Key)). returned bySum (g .limit) (after-second bySum (with-low y z) x)) e))
 
     -- no second word
     pub ended-is : (y′ .len ≡ g .n → ⊥) → Found (y .bits) (g .limit) (handed z) ≡ outcomeOf (two g)
     unfolding outcomeOf returned after-second
-    ended-is partial = ap (Found (y .bits) (g .limit)) (toZ-ofZ (b .first .low-fits)) ∙ go came
+    ended-is partial = ap (Found (y .bits) (g .limit)) (toZ-ofZ (b .taken .first .low-fits)) ∙ go came
       where
         go : Came → Found (y .bits) (g .limit) z ≡ outcomeOf (two g)
         go (inl s) = absurd (partial (s .0))
@@ -164,7 +197,7 @@ module _ {g : Task} {f : ℕ → Key} {m c : ℕ} {y : Key} {z : ℤ} where
     by-sum : {t : Bool} → ltZ (handed (y .sum)) (handed (y′ .sum)) ≡ t → on g c ≡ answer (with-low y′ z′) c′ → outcomeOf (answer (cond t (with-low y′ z′) (with-low y z)) c′) ≡ outcomeOf (two g)
     unfolding returned after-second larger
     by-sum e k =
-        ap (λ (t : Bool). outcomeOf (answer (cond t (with-low y′ z′) (with-low y z)) c′)) (sym (lt-flag (y .sum) (y′ .sum) (b .first .sum-fits) (b .sum-fits) e)) ∙ by-second k
+        ap (λ (t : Bool). outcomeOf (answer (cond t (with-low y′ z′) (with-low y z)) c′)) (sym (lt-flag (y .sum) (y′ .sum) (b .taken .first .sum-fits) (b .sum-fits) e)) ∙ by-second k
 
     -- the second word has the larger sum
     pub second-is : y′ .len ≡ g .n → ltZ (handed (y .sum)) (handed (y′ .sum)) ≡ true → Found (y′ .bits) c′ (handed z′) ≡ outcomeOf (two g)
@@ -174,12 +207,12 @@ module _ {g : Task} {f : ℕ → Key} {m c : ℕ} {y : Key} {z : ℤ} where
         go : Came → Found (y′ .bits) c′ z′ ≡ outcomeOf (two g)
         go (inl s) = by-sum e (s .1)
         go (inr (inl h, d, s)) = absurd (omega arith)
-        go (inr (inr h, d, s)) = absurd (strict-int .irreflexive (y .sum) (ap (λ (k : Key). ltZ (y .sum) (k .sum)) (sym (h .0)) ∙ lt-flag (y .sum) (y′ .sum) (b .first .sum-fits) (b .sum-fits) e))
+        go (inr (inr h, d, s)) = absurd (strict-int .irreflexive (y .sum) (ap (λ (k : Key). ltZ (y .sum) (k .sum)) (sym (h .0)) ∙ lt-flag (y .sum) (y′ .sum) (b .taken .first .sum-fits) (b .sum-fits) e))
 
     -- it has not: the first word, also where no step was left
     pub first-is : y′ .len ≡ g .n → ltZ (handed (y .sum)) (handed (y′ .sum)) ≡ false → Found (y .bits) c′ (handed z) ≡ outcomeOf (two g)
     unfolding outcomeOf returned after-second
-    first-is full e = ap (Found (y .bits) c′) (toZ-ofZ (b .first .low-fits)) ∙ go came
+    first-is full e = ap (Found (y .bits) c′) (toZ-ofZ (b .taken .first .low-fits)) ∙ go came
       where
         go : Came → Found (y .bits) c′ z ≡ outcomeOf (two g)
         go (inl s) = by-sum e (s .1)

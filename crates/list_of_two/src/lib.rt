@@ -13,16 +13,17 @@ ghost use Rattle.paths.specs.Low.{low-point};
 ghost use Rattle.trellis.specs.Values.{Values, levelValues};
 ghost use Rattle.trellis.specs.Order.{number, sum};
 ghost use Rattle.trellis.specs.Demand.{Search};
-ghost use Rattle.trellis.specs.TwoWords.{hardPath, searchedTwo, searchedBy, keySearchTwo, thresholdAllowed};
+ghost use Rattle.trellis.specs.TwoWords.{hardPath, searchedBy, keySearchTwo, thresholdAllowed};
 ghost use Rattle.stack.specs.Places.{Room};
 ghost use Rattle.extension.specs.Steps.{Given, TableOf};
 ghost use Rattle.search.specs.Outcomes.{outcomeOf, codeOutcome, TablesFor, Searchable30};
-ghost use Rattle.list_of_two.specs.Ways.{chosen, choiceOf};
+ghost use Rattle.list_of_two.specs.Ways.{chosen, choiceOf, thresholdOf, unsearchedWord};
 use search::Progress;
 use search::SearchOutcome;
 
 // The search of a soft column for a first word and, if its sum is below the threshold, for a second one under the same limit; the arrays may hold anything.
-pub fn search_two(
+// One call of `run` serves both searches: so it stands in the code once, in the loop over the columns of a page.
+pub fn search_words(
     sums: &mut [i16; 2002],
     lens: &mut [u8; 2002],
     bits: &mut [u64; 2002],
@@ -41,7 +42,8 @@ pub fn search_two(
     ensures { λ r. ⌜ ((vs : Values) → TableOf vs (now (values .entry))
         → r ≡ outcomeOf (keySearchTwo n vs (now (col .entry)) (now (left .entry)) (now (right .entry)) threshold limit)) ⌝ }
 {
-    let start = Progress {
+    // the first word, when it is taken
+    let mut first = Progress {
         paths: 0,
         count: 0,
         sum: 0,
@@ -49,23 +51,8 @@ pub fn search_two(
         bits: 0,
         low: search::NONE_TAKEN,
     };
-    let first = search::run(
-        &mut *sums,
-        &mut *lens,
-        &mut *bits,
-        n,
-        col,
-        left,
-        right,
-        values,
-        start,
-        limit,
-    );
-    if first.len != n {
-        return SearchOutcome::Spent;
-    }
-    if first.sum < threshold {
-        let second = search::run(
+    loop {
+        let end = search::run(
             &mut *sums,
             &mut *lens,
             &mut *bits,
@@ -77,31 +64,40 @@ pub fn search_two(
             first,
             limit,
         );
-        if second.len != n {
+        if first.len == n {
+            if end.len != n {
+                return SearchOutcome::Found {
+                    word: first.bits,
+                    count: limit,
+                    low: first.low,
+                };
+            }
+            // with no step left the last path taken is still the first word, whose sum is not above its own
+            if first.sum < end.sum {
+                return SearchOutcome::Found {
+                    word: end.bits,
+                    count: end.count,
+                    low: end.low,
+                };
+            }
             return SearchOutcome::Found {
                 word: first.bits,
-                count: limit,
+                count: end.count,
                 low: first.low,
             };
         }
-        // with no step left the last path taken is still the first word, whose sum is not above its own
-        if first.sum < second.sum {
+        if end.len != n {
+            return SearchOutcome::Spent;
+        }
+        if end.sum < threshold {
+            first = end;
+        } else {
             return SearchOutcome::Found {
-                word: second.bits,
-                count: second.count,
-                low: second.low,
+                word: end.bits,
+                count: end.count,
+                low: end.low,
             };
         }
-        return SearchOutcome::Found {
-            word: first.bits,
-            count: second.count,
-            low: first.low,
-        };
-    }
-    SearchOutcome::Found {
-        word: first.bits,
-        count: first.count,
-        low: first.low,
     }
 }
 
@@ -137,49 +133,6 @@ fn low_of_reading(soft: &[u8], values: &[i16; 16]) -> i16
         k += 1;
     }
     low
-}
-
-// The search of a soft column of the short page with list of two, by the tables that are lent.
-pub fn search_column(
-    sums: &mut [i16; 2002],
-    lens: &mut [u8; 2002],
-    bits: &mut [u64; 2002],
-    soft: &[u8],
-    level: usize,
-    left: &[u64],
-    right: &[u64],
-    values: &[i16; 16],
-    threshold: i16,
-    limit: u64,
-) -> SearchOutcome
-    requires { ⌜ limit ≤ 2000 ⌝ }
-    requires { ⌜ level < 4 ⌝ }
-    requires { ⌜ Searchable30 (now soft) (now left) (now right) (now values) ⌝ }
-    requires { ⌜ Room (now sums) (now lens) (now bits) ⌝ }
-    ensures { λ r. ⌜ Room (now (sums .exit)) (now (lens .exit)) (now (bits .exit)) ⌝ }
-    ensures { λ r. ⌜ ((s : Search) → TablesFor s level (now (left .entry)) (now (right .entry)) (now (values .entry))
-        → r ≡ codeOutcome (searchedTwo s short (levelValues level) threshold limit (now (soft .entry)) level)) ⌝ }
-{
-    let word = hard_reading(soft);
-    if column::is_word(level, word) {
-        return SearchOutcome::Found {
-            word: word,
-            count: 0,
-            low: low_of_reading(soft, values),
-        };
-    }
-    search_two(
-        sums,
-        lens,
-        bits,
-        30,
-        soft,
-        left,
-        right,
-        values,
-        threshold,
-        limit,
-    )
 }
 
 // How a column is searched: the limit, the search, and whether a second word may be sought, below which sum of the first.
@@ -227,6 +180,39 @@ pub fn way_of(limit: u64, in_supercodes: bool, second: bool, threshold: i64) -> 
     }
 }
 
+// The sum of the first word below which a second one is sought; without list of two no sum is below it.
+fn threshold_of(way: Way) -> i16
+    ensures { λ r. ⌜ r ≡ thresholdOf (choiceOf way) ⌝ }
+{
+    if way.second {
+        return way.threshold;
+    }
+    -2000
+}
+
+// What the hard reading of a column settles: a word that is returned unsearched, or nothing.
+pub enum HardReading {
+    Word(u64),
+    NoWord,
+}
+
+// The hard reading of a soft column, if list of two is on and it is a word of the level.
+fn unsearched_word(soft: &[u8], level: usize, way: Way) -> HardReading
+    requires { ⌜ level < 4 ⌝ }
+    requires { ⌜ length (now soft) ≡ 30 ⌝ }
+    requires { ⌜ ((k : ℕ) → k < 30 → getD (now soft) k 0 < 8) ⌝ }
+    ensures { λ r. ⌜ r ≡ unsearchedWord (choiceOf way) level (now (soft .entry)) ⌝ }
+{
+    if !way.second {
+        return HardReading::NoWord;
+    }
+    let word = hard_reading(soft);
+    if column::is_word(level, word) {
+        return HardReading::Word(word);
+    }
+    HardReading::NoWord
+}
+
 // The search of a soft column of the short page in a given way, by the tables that are lent; the arrays may hold anything.
 pub fn search_by(
     sums: &mut [i16; 2002],
@@ -247,19 +233,23 @@ pub fn search_by(
     ensures { λ r. ⌜ ((s : Search) → TablesFor s level (now (left .entry)) (now (right .entry)) (now (values .entry))
         → r ≡ codeOutcome (searchedBy (choiceOf way) s short (levelValues level) (way .limit) (now (soft .entry)) level)) ⌝ }
 {
-    if way.second {
-        return search_column(
+    match unsearched_word(soft, level, way) {
+        HardReading::Word(word) => SearchOutcome::Found {
+            word: word,
+            count: 0,
+            low: low_of_reading(soft, values),
+        },
+        HardReading::NoWord => search_words(
             sums,
             lens,
             bits,
+            30,
             soft,
-            level,
             left,
             right,
             values,
-            way.threshold,
+            threshold_of(way),
             way.limit,
-        );
+        ),
     }
-    search::short_page::search_column(sums, lens, bits, soft, left, right, values, way.limit)
 }

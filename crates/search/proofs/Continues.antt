@@ -25,7 +25,7 @@ use Rattle.stack.specs.Places.{Upto}
 use Rattle.extension.specs.Steps.{TableOf, Given, tableExtension, tableNodes, Advanced}
 use Rattle.search.specs.Progress.{Standing, Going, Answered, Ended, Reached}
 use Rattle.search.specs.Outcomes.{outcomeOf}
-use Rattle.search.specs.declared.SearchOutcome.the-variants.{Found, Spent}
+use Rattle.search.specs.declared.SearchOutcome.the-variants.{Spent}
 use Rattle.paths.proofs.Keys.{no-keys-left, stack-after-both, low-after-both}
 use Rattle.extension.proofs.Advances.{good-none}
 
@@ -291,10 +291,6 @@ module _ (n limit : ℕ) (vs : Values) (soft left right : List ℕ) (f : ℕ →
 
   pub answer-is : y .len ≡ n → keySearch n vs soft left right limit ≡ answer (record { key = y; low = z }) c
   answer-is full = let a = word-is-taken full in search-is (limit - c) (omega (arith, a .within)) ∙ a .same always (limit - c)
-
-  pub found-is : y .len ≡ n → Found (y .bits) c z ≡ outcomeOf (keySearch n vs soft left right limit)
-  unfolding outcomeOf
-  found-is full = sym (ap outcomeOf (answer-is full))
 
   pub spent-is : (y .len ≡ n → ⊥) → Spent ≡ outcomeOf (keySearch n vs soft left right limit)
   unfolding outcomeOf run-keys

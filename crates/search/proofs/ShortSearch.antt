@@ -12,7 +12,7 @@ use Rattle.column.proofs.Checks.{mask-odd-or-zero}
 use Rattle.column.proofs.Short as Shape
 use Rattle.paths.specs.Search.{SearchResult, answer, spent}
 use Rattle.paths.specs.Keys.{WithLow}
-use Rattle.trellis.specs.Values.{Values, levelValues}
+use Rattle.trellis.specs.Values.{levelValues}
 use Rattle.trellis.specs.Keys.{Key, MasksFor, keySearch}
 use Rattle.trellis.specs.Demand.{Search, whole, supercode, trellis}
 use Rattle.trellis.specs.Trellis.{searched}
@@ -53,10 +53,9 @@ pub level-not-above : (i : ℕ) → i < 4 → (soft : List ℕ) → NotAbove 30 
 level-not-above i h soft = few-bits-are-not-above 30 60 (levelValues i) soft (level-values-near i h) (lit≤ tt)
 
 pub search-short : (s : Search) (i : ℕ) → i < 4 → (soft left right : List ℕ) (table : List ℤ) → TablesFor s i left right table → (limit : ℕ) (r : SearchOutcome)
-    → ((vs : Values) → TableOf vs table → r ≡ outcomeOf (keySearch 30 vs soft left right limit)) → r ≡ codeOutcome (searched (trellis s short (levelValues i) soft i) limit)
+    → r ≡ outcomeOf (keySearch 30 (levelValues i) soft left right limit) → r ≡ codeOutcome (searched (trellis s short (levelValues i) soft i) limit)
 search-short s i h soft left right table tables limit r e =
-    e (levelValues i) (level-table s i left right table tables)
-    ∙ by-number (keySearch 30 (levelValues i) soft left right limit)
+    e ∙ by-number (keySearch 30 (levelValues i) soft left right limit)
     ∙ ap codeOutcome (key-search-is-the-search short i (searchable i h) (levelValues i) soft left right s (tables .masks) (level-not-above i h soft) limit)
 
 masks-odd : (C : Code) (masks : List ℕ) → ((t : ℕ) → (maskOf 30 C (suc t) ≡ 0) ⊎ (maskOf 30 C (suc t) % 2 ≡ 1)) → MasksOf 30 C masks → (k : ℕ) → k < 30 → ZeroOrOdd (getD masks k 0)

@@ -12,11 +12,10 @@ ghost use mathlib.Core.Path.{_≡_};
 ghost use Rattle.paths.specs.Low.{lower as lowerOf};
 ghost use Rattle.heap.specs.Holds.{Holds};
 ghost use Rattle.trellis.specs.Values.{Values};
-ghost use Rattle.trellis.specs.Keys.{Key, key, keyNodes, keySearch};
+ghost use Rattle.trellis.specs.Keys.{Key, key, keyNodes};
 ghost use Rattle.stack.specs.Places.{at, Room, Upto};
 ghost use Rattle.extension.specs.Steps.{Given, TableOf};
 ghost use Rattle.search.specs.Progress.{Standing, Reached};
-ghost use Rattle.search.specs.Outcomes.{outcomeOf};
 
 // The outcome of a search: the word, the number of paths taken, the word included, and its low point; or the limit was spent.
 pub enum SearchOutcome {
@@ -124,52 +123,4 @@ pub fn run(
         bits: b,
         low: low,
     }
-}
-
-// The search of a soft column for the first word of two trellises, with a limit on the paths taken; the arrays may hold anything.
-pub fn search(
-    sums: &mut [i16; 2002],
-    lens: &mut [u8; 2002],
-    bits: &mut [u64; 2002],
-    n: u8,
-    col: &[u8],
-    left: &[u64],
-    right: &[u64],
-    values: &[i16; 16],
-    limit: u64,
-) -> SearchOutcome
-    requires { ⌜ limit ≤ 2000 ⌝ }
-    requires { ⌜ Given n (now col) (now left) (now right) (now values) ⌝ }
-    requires { ⌜ Room (now sums) (now lens) (now bits) ⌝ }
-    ensures { λ r. ⌜ Room (now (sums .exit)) (now (lens .exit)) (now (bits .exit)) ⌝ }
-    ensures { λ r. ⌜ ((vs : Values) → TableOf vs (now (values .entry)) → r ≡ outcomeOf (keySearch n vs (now (col .entry)) (now (left .entry)) (now (right .entry)) limit)) ⌝ }
-{
-    let start = Progress {
-        paths: 0,
-        count: 0,
-        sum: 0,
-        len: 0,
-        bits: 0,
-        low: NONE_TAKEN,
-    };
-    let end = run(
-        &mut *sums,
-        &mut *lens,
-        &mut *bits,
-        n,
-        col,
-        left,
-        right,
-        values,
-        start,
-        limit,
-    );
-    if end.len == n {
-        return SearchOutcome::Found {
-            word: end.bits,
-            count: end.count,
-            low: end.low,
-        };
-    }
-    SearchOutcome::Spent
 }

@@ -1,14 +1,9 @@
-// The searches of the short page's columns: 30 bits, the branch values of the level.
-ghost use Prim.Native.Nat.{ℕ, _<_, _≤_};
+// The tables of the searches of the short page's columns: 30 bits, the branch values of the level.
+ghost use Prim.Native.Nat.{_<_};
 ghost use mathlib.Core.Path.{_≡_};
-ghost use Rattle.column.specs.Shape.{short};
 ghost use Rattle.trellis.specs.Values.{values as branchValues, levelValues};
-ghost use Rattle.trellis.specs.Demand.{Search, trellis};
-ghost use Rattle.trellis.specs.Trellis.{searched};
-ghost use Rattle.stack.specs.Places.{Room};
 ghost use Rattle.extension.specs.Steps.{tableOf};
-ghost use Rattle.search.specs.Outcomes.{codeOutcome, TablesFor, Searchable30, searchOf};
-use crate::SearchOutcome;
+ghost use Rattle.search.specs.Outcomes.{TablesFor, searchOf};
 
 // 01's branch values as a table: the entry 8 b + q is what the soft value q gives to the bit b.
 fn values() -> [i16; 16]
@@ -74,25 +69,4 @@ pub fn tables_of(level: usize, in_supercodes: bool) -> Tables
         right: column::masks::no_masks(),
         values: values,
     }
-}
-
-// The search of a soft column over lent arrays, which may hold anything: the whole or the supercode search of a level, by the tables that are lent.
-pub fn search_column(
-    sums: &mut [i16; 2002],
-    lens: &mut [u8; 2002],
-    bits: &mut [u64; 2002],
-    soft: &[u8],
-    left: &[u64],
-    right: &[u64],
-    values: &[i16; 16],
-    limit: u64,
-) -> SearchOutcome
-    requires { ⌜ limit ≤ 2000 ⌝ }
-    requires { ⌜ Searchable30 (now soft) (now left) (now right) (now values) ⌝ }
-    requires { ⌜ Room (now sums) (now lens) (now bits) ⌝ }
-    ensures { λ r. ⌜ Room (now (sums .exit)) (now (lens .exit)) (now (bits .exit)) ⌝ }
-    ensures { λ r. ⌜ ((s : Search) (i : ℕ) → i < 4 → TablesFor s i (now (left .entry)) (now (right .entry)) (now (values .entry))
-        → r ≡ codeOutcome (searched (trellis s short (levelValues i) (now (soft .entry)) i) limit)) ⌝ }
-{
-    crate::search(sums, lens, bits, 30, soft, left, right, values, limit)
 }

@@ -3,7 +3,7 @@ use mathlib.Core.Bool.{Bool, true, false, cond, _&&_}
 use mathlib.Core.List.{List}
 use mathlib.Core.Logic.{_↔_}
 use mathlib.Core.Path.{_≡_, refl, sym, ap, _∙_, subst⁻¹}
-use Prim.Native.Nat.{ℕ, _+_, _≤_, _<_}
+use Prim.Native.Nat.{ℕ, _≤_, _<_}
 use native.Mathlib.Decide.{decLe}
 use native.Mathlib.Omega.{arith}
 use lib.Dec.{leb}
@@ -28,7 +28,7 @@ use Rattle.trellis.specs.Demand.{Search, whole, supercode, trellis, whol
 use Rattle.trellis.specs.TwoWords.{hardPath, twoWords, searchedTwo, AheadOfAllBut}
 use Rattle.trellis.proofs.Order.{number-has-a-path}
 use Rattle.trellis.proofs.Sound.{whole-within-supercode}
-use Rattle.trellis.proofs.Demand.{Searchable, trellis-sound, full-is-codeword, winner-is-ahead-of-all, ranks-differ-by-the-dead-ahead, no-dead-ahead}
+use Rattle.trellis.proofs.Demand.{Searchable, trellis-sound, full-is-codeword, winner-is-ahead-of-all, no-dead-ahead}
 
 module _ (S : Shape) (i : ℕ) (given : Searchable S i) (vs : Values) (soft : List ℕ) where
   -- a hard reading that is in the code
@@ -140,11 +140,6 @@ module _ (S : Shape) (i : ℕ) (given : Searchable S i) (some-symbol : 0 < S .sy
             go e (no l) = omega arith
 
   -- ---- (3) the two searches
-
-  -- the numbers of the second word differ by the dead paths ahead of it
-  pub second-ranks-differ-by-the-dead-ahead : (w v : Path) → AheadOfAllBut S vs soft i w v
-      → rank (supercodeTrellis S vs soft i) v ≡ rank (wholeTrellis S vs soft i) v + dead-ahead (wholeTrellis S vs soft i) (supercodeTrellis S vs soft i) v
-  second-ranks-differ-by-the-dead-ahead w v second = ranks-differ-by-the-dead-ahead S i given vs soft v (second .codeword)
 
   another-full : (w : Path) → Winner (supercodeTrellis S vs soft i) w → (u : Path) × Full (supercodeTrellis S vs soft i) u × (u ≡ w → ⊥)
   another-full w win = let u = another-codeword w in (u .0, full-is-codeword S i given vs soft supercode (u .0) .1 (u .1), u .2)

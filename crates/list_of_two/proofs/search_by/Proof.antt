@@ -1,26 +1,61 @@
--- `list_of_two::search_by` meets its contract: the search with list of two or the one without, as the way says. Assumes nothing.
+-- `list_of_two::search_by` meets its contract: the hard reading where it settles the column, else the search for one word or two. Assumes nothing.
+use mathlib.Core.Path.{sym, ap, _∙_}
+use lib.IntN.{ℤ}
+use mir.Facts.{toZ-ofZ}
+use Rattle.trellis.specs.TwoWords.{keySearchTwo}
+use Rattle.search.specs.Outcomes.{outcomeOf}
+use Rattle.search.proofs.ShortSearch.{given-short}
+use Rattle.list_of_two.specs.Ways.{choiceOf}
+use Rattle.list_of_two.proofs.ShortTwo.{word-is-returned, column-is-searched}
 use borrow.Author.Needs.{needs}
-use Rattle.list_of_two.proofs.ShortTwo.{with-second, without-second}
 use Rattle.list_of_two.proofs.search_by.Statement.{statement}
 use Rattle.list_of_two.proofs.search_by.Tie as tie
 
-search-column-requires : tie.Need-search-column-requires
-search-column-requires c κs = search needs
+unsearched-word-requires : tie.Need-unsearched-word-requires
+unsearched-word-requires c κs = search needs
+
+enum-known-word : tie.Need-enum-known-word
+enum-known-word c = search needs
+
+low-of-reading-requires : tie.Need-low-of-reading-requires
+low-of-reading-requires c κs = search needs
+
+enum-told : tie.Need-enum-told
+enum-told c = search needs
+
+threshold-of-requires : tie.Need-threshold-of-requires
+threshold-of-requires c κs = search needs
+
+search-words-requires : tie.Need-search-words-requires
+search-words-requires c κs =
+    let start = c .before .before .before .before .before .before .before .before .before .before in
+    (start .pre .0, (given-short _ _ _ _ (start .pre .1 .1 .0), start .pre .1 .1 .1))
 
 returns : tie.Need-returns
 returns c =
-    let test = c .before .before .before .before .before in
-    (c .search-column .ensures .0, λ s tables. with-second (test .before .before .before .before .args .way) s _ _ _ (test .if1 .taken) (record { sfits = c .before .struct-told .given .1 .1 .1 .0 .1 }) (c .search-column .ensures .1 s tables))
-
-search-column-requires-2 : tie.Need-search-column-requires-2
-search-column-requires-2 c κs = search needs
+    let start = c .before .before .before .before .before .before .before .before in
+    let a = start .args in
+    let told = c .before .before .word .given in
+    (start .pre .1 .1 .1, λ s tables. word-is-returned (a .level) (start .pre .1 .0) (a .soft .now) _ _ _ (a .way .limit) s tables (choiceOf (a .way)) (told .0 .0) (sym (c .before .before .before .before .unsearched-word .ensures) ∙ told .1) _ (record { sfits = c .low-of-reading .ok }) (c .low-of-reading .ensures))
 
 returns-2 : tie.Need-returns-2
 returns-2 c =
-    let test = c .before .before .before .before in
-    let a = test .before .before .before .before in
-    (c .search-column2 .ensures .0, λ s tables. without-second (a .args .way) s _ _ _ (test .if1 .left) (c .search-column2 .ensures .1 s (a .args .level) (a .pre .1 .0) tables))
+    let start = c .before .before .before .before .before .before .before .before .before .before .before in
+    let a = start .args in
+    let sought = c .before in
+    let told = c .before .before .before .before .before in
+    let threshold = toZ-ofZ (record { sfits = sought .threshold-of .ok }) ∙ sought .threshold-of .ensures in
+    (c .search-words .ensures .0, λ s tables. column-is-searched (a .level) (start .pre .1 .0) (a .soft .now) (a .left .now) (a .right .now) _ (a .way .limit) s tables (choiceOf (a .way)) (sym (told .before .before .unsearched-word .ensures) ∙ told .enum-told .given .1) _ (λ vs tb. c .search-words .ensures .1 vs tb ∙ ap (λ (z : ℤ). outcomeOf (keySearchTwo 30 vs (a .soft .now) (a .left .now) (a .right .now) z (a .way .limit))) threshold))
 
 pub search-by-spec : {M : Type 1} → statement M
 search-by-spec =
-    tie.close (tie.spec search-column-requires returns search-column-requires-2 returns-2)
+    tie.close
+    (tie.spec
+    unsearched-word-requires
+    enum-known-word
+    low-of-reading-requires
+    enum-told
+    threshold-of-requires
+    search-words-requires
+    returns
+    returns-2)
