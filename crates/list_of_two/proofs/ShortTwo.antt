@@ -2,7 +2,7 @@
 use mathlib.Core.Bool.{Bool, true, false, cond}
 use mathlib.Core.List.{List}
 use mathlib.Core.Path.{_≡_, refl, sym, ap, ap₂, _∙_}
-use Prim.Native.Nat.{ℕ, _≤_, _<_}
+use Prim.Native.Nat.{ℕ, _^_, _≤_, _<_}
 use native.Mathlib.Omega.{arith}
 use lib.IntN.{ℤ, pos, negsuc, natAbs}
 use lib.ListN.{length}
@@ -29,24 +29,40 @@ use Rattle.trellis.proofs.Demand.{trellis-sound}
 use Rattle.trellis.proofs.Sums.{level-values-near, sum-near}
 use Rattle.trellis.proofs.Keys.{key-search-has-the-keys, keys-of-trellis}
 use Rattle.trellis.proofs.Short.{searchable}
+use Rattle.trellis.proofs.HardPath.{hard-path-below}
 use Rattle.trellis.proofs.TwoKeys.{key-search-two-is-list-of-two, hard-reading-is-answered}
 use Rattle.extension.specs.Steps.{TableOf}
 use Rattle.search.specs.Outcomes.{outcomeOf, codeOutcome, TablesFor}
 use Rattle.search.specs.declared.SearchOutcome.{SearchOutcome}
 use Rattle.search.specs.declared.SearchOutcome.the-variants.{Found}
 use Rattle.search.proofs.ShortSearch.{by-number, level-table, level-not-above, search-short}
+use Rattle.list_of_two.specs.Hard.{checkedWord}
+use Rattle.list_of_two.specs.declared.HardReading.{HardReading}
 use Rattle.list_of_two.specs.declared.HardReading.the-variants.{Word, NoWord}
 use Rattle.list_of_two.specs.Ways.{chosen, thresholdOf, unsearchedWord}
+use Rattle.list_of_two.proofs.Checked.{read-below-is-word, read-above-is-no-word}
 
 -- a hard reading is a word or none
 never : {X : Type 0} (x : ℕ) → NoWord ≡ Word x → X
 never x e = let no : _≡_ {A = ℕ} 0 1 = cc in absurd (omega arith)
 
--- what the code's test of the hard reading x says
-pub is-unsearched : (second : Bool) (threshold : ℤ) (i : ℕ) (soft : List ℕ) (x : ℕ) (b : Bool) → second ≡ true → x ≡ number (hardPath soft 30) → b ≡ isWord short i x
-    → cond b (Word x) NoWord ≡ unsearchedWord (chosen second threshold) i soft
-is-unsearched second threshold i soft x b with-list e f =
-    ap (λ (t : Bool). cond t (Word x) NoWord) f ∙ ap (λ (y : ℕ). cond (isWord short i y) (Word y) NoWord) e ∙ ap (λ (s : Bool). unsearchedWord (chosen s threshold) i soft) (sym with-list)
+-- what the code's test of the hard reading, read with its remainder, says
+module _ (second : Bool) (threshold : ℤ) (i : ℕ) (soft : List ℕ) (read : ℕ) (with-list : second ≡ true) (e : read ≡ checkedWord i (number (hardPath soft 30))) where
+  abbrev told : Bool → HardReading
+  told b = cond b (Word (number (hardPath soft 30))) NoWord
+
+  pub is-unsearched : read < 2 ^ 30 → Word read ≡ unsearchedWord (chosen second threshold) i soft
+  is-unsearched below =
+      let word = read-below-is-word i _ read (hard-path-below soft 30) e below in
+      ap Word (word .0) ∙ ap told (sym (sym (ap (isWord short i) (word .0)) ∙ word .1)) ∙ ap (λ (s : Bool). unsearchedWord (chosen s threshold) i soft) (sym with-list)
+
+  pub is-searched : 2 ^ 30 ≤ read → NoWord ≡ unsearchedWord (chosen second threshold) i soft
+  is-searched above = ap told (sym (read-above-is-no-word i _ read (hard-path-below soft 30) e above)) ∙ ap (λ (s : Bool). unsearchedWord (chosen s threshold) i soft) (sym with-list)
+
+-- only with list of two is a word returned unsearched
+pub word-is-of-the-list : (second : Bool) (threshold : ℤ) (i : ℕ) (soft : List ℕ) (x : ℕ) → unsearchedWord (chosen second threshold) i soft ≡ Word x → second ≡ true
+word-is-of-the-list true threshold i soft x e = refl
+word-is-of-the-list false threshold i soft x e = never x e
 
 -- no sum near zero is below −2,000
 near-is-not-below : (z : ℤ) → natAbs z ≤ 1800 → ltZ z (negsuc 1999) ≡ false

@@ -3,20 +3,20 @@
 // The argument. `search::run` goes on past a word as the search of the specification does, on the same stack; so two calls of it are the first and the second search.
 // The lowest sum of all paths taken is the low point of the last word taken, as for a first word.
 
+pub mod hard;
+
 ghost use mathlib.Core.Bool.{true};
 ghost use mathlib.Core.Path.{_≡_};
 ghost use Prim.Native.Nat.{ℕ, _<_, _≤_};
-ghost use lib.IntN.{pos, natAbs};
 ghost use lib.ListN.{length, getD};
 ghost use Rattle.column.specs.Shape.{short};
-ghost use Rattle.paths.specs.Low.{low-point};
 ghost use Rattle.trellis.specs.Values.{Values, levelValues};
-ghost use Rattle.trellis.specs.Order.{number, sum};
 ghost use Rattle.trellis.specs.Demand.{Search};
-ghost use Rattle.trellis.specs.TwoWords.{hardPath, searchedBy, keySearchTwo, thresholdAllowed};
+ghost use Rattle.trellis.specs.TwoWords.{searchedBy, keySearchTwo, thresholdAllowed};
 ghost use Rattle.stack.specs.Places.{Room};
 ghost use Rattle.extension.specs.Steps.{Given, TableOf};
 ghost use Rattle.search.specs.Outcomes.{outcomeOf, codeOutcome, TablesFor, Searchable30};
+ghost use Rattle.list_of_two.specs.Hard.{ChecksFor, HardFor};
 ghost use Rattle.list_of_two.specs.Ways.{chosen, choiceOf, thresholdOf, unsearchedWord};
 use search::Progress;
 use search::SearchOutcome;
@@ -101,40 +101,6 @@ pub fn search_words(
     }
 }
 
-// The hard reading of a soft column, as a column's number.
-fn hard_reading(soft: &[u8]) -> u64
-    requires { ⌜ length (now soft) ≡ 30 ⌝ }
-    requires { ⌜ ((k : ℕ) → k < 30 → getD (now soft) k 0 < 8) ⌝ }
-    ensures { λ r. ⌜ r ≡ number (hardPath (now (soft .entry)) 30) ⌝ }
-{
-    let mut word: u64 = 0;
-    let mut k: usize = 0;
-    while k < 30 {
-        word = word * 2 + (soft[k] / 4) as u64;
-        k += 1;
-    }
-    word
-}
-
-// The low point of the hard reading of a soft column.
-fn low_of_reading(soft: &[u8], values: &[i16; 16]) -> i16
-    requires { ⌜ length (now soft) ≡ 30 ⌝ }
-    requires { ⌜ ((k : ℕ) → k < 30 → getD (now soft) k 0 < 8) ⌝ }
-    requires { ⌜ ((k : ℕ) → k < 16 → natAbs (getD (now values) k (pos 0)) ≤ 60) ⌝ }
-    ensures { λ r. ⌜ ((vs : Values) → TableOf vs (now (values .entry)) → r ≡ low-point (sum vs (now (soft .entry))) (hardPath (now (soft .entry)) 30)) ⌝ }
-{
-    let mut sum: i16 = 0;
-    let mut low = search::NONE_TAKEN;
-    let mut k: usize = 0;
-    while k < 30 {
-        let q = soft[k] as usize;
-        sum += values[q / 4 * 8 + q];
-        low = search::lower(low, sum);
-        k += 1;
-    }
-    low
-}
-
 // How a column is searched: the limit, the search, and whether a second word may be sought, below which sum of the first.
 pub struct Way {
     pub limit: u64,
@@ -163,6 +129,7 @@ pub fn threshold_allowed(second: bool, threshold: i64) -> bool
 pub fn way_of(limit: u64, in_supercodes: bool, second: bool, threshold: i64) -> Way
     requires { ⌜ thresholdAllowed (chosen second threshold) ≡ true ⌝ }
     ensures { λ r. ⌜ (r .limit ≡ limit) × (r .in_supercodes ≡ in_supercodes) × (choiceOf r ≡ chosen second threshold) ⌝ }
+    ensures { λ r. ⌜ r .second ≡ second ⌝ }
 {
     if !second {
         return Way {
@@ -197,18 +164,18 @@ pub enum HardReading {
 }
 
 // The hard reading of a soft column, if list of two is on and it is a word of the level.
-fn unsearched_word(soft: &[u8], level: usize, way: Way) -> HardReading
-    requires { ⌜ level < 4 ⌝ }
+fn unsearched_word(soft: &[u8], checks: &[u64], way: Way) -> HardReading
     requires { ⌜ length (now soft) ≡ 30 ⌝ }
     requires { ⌜ ((k : ℕ) → k < 30 → getD (now soft) k 0 < 8) ⌝ }
-    ensures { λ r. ⌜ r ≡ unsearchedWord (choiceOf way) level (now (soft .entry)) ⌝ }
+    requires { ⌜ ((i : ℕ) × (i < 4) × (way .second ≡ true → ChecksFor i (now checks))) ⌝ }
+    ensures { λ r. ⌜ ((i : ℕ) → i < 4 → (way .second ≡ true → ChecksFor i (now (checks .entry))) → r ≡ unsearchedWord (choiceOf way) i (now (soft .entry))) ⌝ }
 {
     if !way.second {
         return HardReading::NoWord;
     }
-    let word = hard_reading(soft);
-    if column::is_word(level, word) {
-        return HardReading::Word(word);
+    let read = hard::checked_reading(soft, checks);
+    if read < 1073741824 {
+        return HardReading::Word(read);
     }
     HardReading::NoWord
 }
@@ -219,25 +186,27 @@ pub fn search_by(
     lens: &mut [u8; 2002],
     bits: &mut [u64; 2002],
     soft: &[u8],
-    level: usize,
     left: &[u64],
     right: &[u64],
     values: &[i16; 16],
+    checks: &[u64],
+    agreeing: &[i16; 8],
     way: Way,
 ) -> SearchOutcome
     requires { ⌜ way .limit ≤ 2000 ⌝ }
-    requires { ⌜ level < 4 ⌝ }
     requires { ⌜ Searchable30 (now soft) (now left) (now right) (now values) ⌝ }
+    requires { ⌜ ((i : ℕ) × (i < 4) × HardFor (way .second) i (now values) (now checks) (now agreeing)) ⌝ }
     requires { ⌜ Room (now sums) (now lens) (now bits) ⌝ }
     ensures { λ r. ⌜ Room (now (sums .exit)) (now (lens .exit)) (now (bits .exit)) ⌝ }
-    ensures { λ r. ⌜ ((s : Search) → TablesFor s level (now (left .entry)) (now (right .entry)) (now (values .entry))
-        → r ≡ codeOutcome (searchedBy (choiceOf way) s short (levelValues level) (way .limit) (now (soft .entry)) level)) ⌝ }
+    ensures { λ r. ⌜ ((s : Search) (i : ℕ) → i < 4 → TablesFor s i (now (left .entry)) (now (right .entry)) (now (values .entry))
+        → HardFor (way .second) i (now (values .entry)) (now (checks .entry)) (now (agreeing .entry))
+        → r ≡ codeOutcome (searchedBy (choiceOf way) s short (levelValues i) (way .limit) (now (soft .entry)) i)) ⌝ }
 {
-    match unsearched_word(soft, level, way) {
+    match unsearched_word(soft, checks, way) {
         HardReading::Word(word) => SearchOutcome::Found {
             word: word,
             count: 0,
-            low: low_of_reading(soft, values),
+            low: hard::low_of_reading(soft, agreeing),
         },
         HardReading::NoWord => search_words(
             sums,

@@ -7,6 +7,7 @@ ghost use Rattle.trellis.specs.Values.{levelValues};
 ghost use Rattle.trellis.specs.Demand.{Search};
 ghost use Rattle.trellis.specs.TwoWords.{off, on, searchedBy};
 ghost use Rattle.search.specs.Outcomes.{TablesFor};
+ghost use Rattle.list_of_two.specs.Hard.{HardFor};
 ghost use Rattle.list_of_two.specs.Ways.{chosen, choiceOf};
 ghost use Rattle.measured.specs.Folds.{folded as foldedOf, foldedColumns, named, measuredAnswer};
 use list_of_two::Way;
@@ -27,18 +28,19 @@ fn folded(found: SearchOutcome) -> u64
 // The answers of the columns of a buffer, 30 values each, as one number.
 fn search_all(
     soft: &[u8],
-    level: usize,
     left: &[u64; 30],
     right: &[u64; 30],
     values: &[i16; 16],
+    checks: &[u64; 30],
+    agreeing: &[i16; 8],
     way: Way,
 ) -> u64
     requires { ⌜ way .limit ≤ 2000 ⌝ }
-    requires { ⌜ level < 4 ⌝ }
     requires { ⌜ ((k : ℕ) → k < length (now soft) → getD (now soft) k 0 ≤ 7) ⌝ }
-    requires { ⌜ ((s : Search) × TablesFor s level (now left) (now right) (now values)) ⌝ }
-    ensures { λ r. ⌜ ((s : Search) → TablesFor s level (now (left .entry)) (now (right .entry)) (now (values .entry))
-        → r ≡ foldedColumns (λ c. searchedBy (choiceOf way) s short (levelValues level) (way .limit) c level) (now (soft .entry)) (length (now (soft .entry)) / 30)) ⌝ }
+    requires { ⌜ ((s : Search) × (i : ℕ) × (i < 4) × TablesFor s i (now left) (now right) (now values) × HardFor (way .second) i (now values) (now checks) (now agreeing)) ⌝ }
+    ensures { λ r. ⌜ ((s : Search) (i : ℕ) → i < 4 → TablesFor s i (now (left .entry)) (now (right .entry)) (now (values .entry))
+        → HardFor (way .second) i (now (values .entry)) (now (checks .entry)) (now (agreeing .entry))
+        → r ≡ foldedColumns (λ c. searchedBy (choiceOf way) s short (levelValues i) (way .limit) c i) (now (soft .entry)) (length (now (soft .entry)) / 30)) ⌝ }
 {
     let mut sums = [0i16; 2002];
     let mut lens = [0u8; 2002];
@@ -52,10 +54,11 @@ fn search_all(
             &mut lens,
             &mut bits,
             &soft[a..e],
-            level,
             left,
             right,
             values,
+            checks,
+            agreeing,
             way,
         );
         fold = fold ^ folded(found);
@@ -91,8 +94,11 @@ fn measured_by(
     let left = tables.left;
     let right = tables.right;
     let values = tables.values;
+    let hard = list_of_two::hard::tables_of(level as usize, &values, second);
+    let checks = hard.checks;
+    let agreeing = hard.agreeing;
     let way = list_of_two::way_of(limit, supercode != 0, second, threshold);
-    search_all(soft, level as usize, &left, &right, &values, way)
+    search_all(soft, &left, &right, &values, &checks, &agreeing, way)
 }
 
 #[no_mangle]

@@ -68,6 +68,9 @@ pub fn read_row(
     let left = tables.left;
     let right = tables.right;
     let values = tables.values;
+    let hard = list_of_two::hard::tables_of(level, &values, way.second);
+    let checks = hard.checks;
+    let agreeing = hard.agreeing;
     let mut sum: u64 = 0;
     let mut low = lowest;
     let mut j: usize = 0;
@@ -78,10 +81,11 @@ pub fn read_row(
             &mut *lens,
             &mut *bits,
             &column,
-            level,
             &left,
             &right,
             &values,
+            &checks,
+            &agreeing,
             way,
         );
         let e = enter(level, way.limit, low, found);

@@ -48,6 +48,10 @@ by-number (spent c) = refl
 pub level-table : (s : Search) (i : ℕ) (left right : List ℕ) (table : List ℤ) → TablesFor s i left right table → TableOf (levelValues i) table
 level-table s i left right table tables = subst⁻¹ (TableOf (levelValues i)) (tables .values) (table-of (levelValues i))
 
+-- its entries lie within 60 of zero
+pub level-table-near : (s : Search) (i : ℕ) → i < 4 → (left right : List ℕ) (table : List ℤ) → TablesFor s i left right table → (k : ℕ) → k < 16 → natAbs (getD table k (pos 0)) ≤ 60
+level-table-near s i h left right table tables k l = subst⁻¹ (λ (t : List ℤ). natAbs (getD t k (pos 0)) ≤ 60) (tables .values) (table-near (levelValues i) (level-values-near i h) k)
+
 -- no sum of a column is above what the search begins with
 pub level-not-above : (i : ℕ) → i < 4 → (soft : List ℕ) → NotAbove 30 (levelValues i) soft
 level-not-above i h soft = few-bits-are-not-above 30 60 (levelValues i) soft (level-values-near i h) (lit≤ tt)
@@ -84,5 +88,5 @@ column-searchable s i h soft left right table long range tables =
       soft-range = λ k l. suc-le-suc (range k l);
       left-odd = odd .0;
       right-odd = odd .1;
-      near = λ k l. subst⁻¹ (λ (t : List ℤ). natAbs (getD t k (pos 0)) ≤ 60) (tables .values) (table-near (levelValues i) (level-values-near i h) k);
+      near = level-table-near s i h left right table tables;
     }

@@ -1,11 +1,12 @@
 // Column searches: 01, "The search", and 02, point 1, list of two.
-ghost use Prim.Native.Nat.{_<_, _≤_};
+ghost use Prim.Native.Nat.{ℕ, _<_, _≤_};
 ghost use mathlib.Core.Path.{_≡_};
 ghost use Rattle.column.specs.Shape.{short};
 ghost use Rattle.trellis.specs.Values.{levelValues};
 ghost use Rattle.trellis.specs.Demand.{Search, whole, supercode};
 ghost use Rattle.trellis.specs.TwoWords.{off, on, searchedBy};
 ghost use Rattle.search.specs.Outcomes.{TablesFor, Searchable30, searchOf};
+ghost use Rattle.list_of_two.specs.Hard.{HardFor};
 ghost use Rattle.list_of_two.specs.Ways.{chosen, choiceOf};
 ghost use Rattle.store_searches.specs.Searches.{Answered, searchAnswer, outcomeAnswer};
 use list_of_two::Way;
@@ -20,17 +21,19 @@ pub enum SearchAnswer {
 // The search with tables that are lent, over arrays of its own.
 fn search_by_tables(
     soft: &[u8],
-    level: usize,
     left: &[u64; 30],
     right: &[u64; 30],
     values: &[i16; 16],
+    checks: &[u64; 30],
+    agreeing: &[i16; 8],
     way: Way,
 ) -> SearchAnswer
     requires { ⌜ way .limit ≤ 2000 ⌝ }
-    requires { ⌜ level < 4 ⌝ }
     requires { ⌜ Searchable30 (now soft) (now left) (now right) (now values) ⌝ }
-    ensures { λ r. ⌜ ((s : Search) → TablesFor s level (now (left .entry)) (now (right .entry)) (now (values .entry))
-        → r ≡ outcomeAnswer (searchedBy (choiceOf way) s short (levelValues level) (way .limit) (now (soft .entry)) level)) ⌝ }
+    requires { ⌜ ((i : ℕ) × (i < 4) × HardFor (way .second) i (now values) (now checks) (now agreeing)) ⌝ }
+    ensures { λ r. ⌜ ((s : Search) (i : ℕ) → i < 4 → TablesFor s i (now (left .entry)) (now (right .entry)) (now (values .entry))
+        → HardFor (way .second) i (now (values .entry)) (now (checks .entry)) (now (agreeing .entry))
+        → r ≡ outcomeAnswer (searchedBy (choiceOf way) s short (levelValues i) (way .limit) (now (soft .entry)) i)) ⌝ }
 {
     let mut sums = [0i16; 2002];
     let mut lens = [0u8; 2002];
@@ -40,10 +43,11 @@ fn search_by_tables(
         &mut lens,
         &mut bits,
         soft,
-        level,
         left,
         right,
         values,
+        checks,
+        agreeing,
         way,
     );
     match found {
@@ -86,8 +90,11 @@ fn search_either(
     let left = tables.left;
     let right = tables.right;
     let values = tables.values;
+    let hard = list_of_two::hard::tables_of(level as usize, &values, second);
+    let checks = hard.checks;
+    let agreeing = hard.agreeing;
     let way = list_of_two::way_of(limit, in_supercodes, second, threshold);
-    search_by_tables(soft, level as usize, &left, &right, &values, way)
+    search_by_tables(soft, &left, &right, &values, &checks, &agreeing, way)
 }
 
 // The whole search of a column: the word, the count and the low point. Refused by 1, 3, 4, 5 and 9.

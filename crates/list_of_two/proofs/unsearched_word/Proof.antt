@@ -1,36 +1,35 @@
 -- `list_of_two::unsearched_word` meets its contract: by the way's flag and the test of the hard reading. Assumes nothing.
-use mathlib.Core.Bool.{Bool, true, false}
-use mathlib.Core.Path.{sym, ap, _∙_, subst⁻¹}
-use Prim.Native.Nat.{ℕ, _^_, _<_}
+use mathlib.Core.Bool.{Bool}
+use mathlib.Core.Path.{sym, ap}
 use borrow.Author.Tests.{not-true, not-false}
-use Rattle.trellis.proofs.HardPath.{hard-path-below}
 use Rattle.list_of_two.specs.Ways.{chosen, unsearchedWord}
-use Rattle.list_of_two.proofs.ShortTwo.{is-unsearched}
-use borrow.Author.Needs.{needs}
+use Rattle.list_of_two.proofs.ShortTwo.{is-unsearched, is-searched}
 use Rattle.list_of_two.proofs.unsearched_word.Statement.{statement}
 use Rattle.list_of_two.proofs.unsearched_word.Tie as tie
 
 returns : tie.Need-returns
-returns c = let a = c .before .before .before .args in ap (λ (b : Bool). unsearchedWord (chosen b (a .way .threshold)) (a .level) (a .soft .now)) (sym (not-true (a .way .second) (c .if1 .taken)))
+returns c = let a = c .before .before .before .before .args in λ i h checks. ap (λ (b : Bool). unsearchedWord (chosen b (a .way .threshold)) i (a .soft .now)) (sym (not-true (a .way .second) (c .if1 .taken)))
 
-hard-reading-requires : tie.Need-hard-reading-requires
-hard-reading-requires c κs = search needs
-
-is-word-requires : tie.Need-is-word-requires
-is-word-requires c κs = let start = c .before .before .before .before in (start .pre .0, subst⁻¹ (λ (x : ℕ). x < 2 ^ 30) (c .hard-reading .ensures) (hard-path-below (start .args .soft .now) 30))
+checked-reading-requires : tie.Need-checked-reading-requires
+checked-reading-requires c κs =
+    let start = c .before .before .before .before in
+    let some = start .pre .1 .1 in
+    (start .pre .0, (start .pre .1 .0, (some .0, some .1, some .2 (not-false _ (c .if1 .left)))))
 
 returns-2 : tie.Need-returns-2
 returns-2 c =
-    let read = c .before .before in
-    let a = read .before .before .before .before .args in
-    is-unsearched (a .way .second) (a .way .threshold) (a .level) (a .soft .now) _ true (not-false _ (read .before .if1 .left)) (read .hard-reading .ensures) (sym (c .if2 .taken) ∙ c .before .is-word .ensures)
+    let read = c .before in
+    let a = read .before .before .before .before .before .args in
+    let with-list = not-false (a .way .second) (read .before .if1 .left) in
+    λ i h checks. is-unsearched (a .way .second) (a .way .threshold) i (a .soft .now) _ with-list (read .checked-reading .ensures i h (checks with-list)) (c .if2 .taken)
 
 returns-3 : tie.Need-returns-3
 returns-3 c =
-    let read = c .before .before in
-    let a = read .before .before .before .before .args in
-    is-unsearched (a .way .second) (a .way .threshold) (a .level) (a .soft .now) _ false (not-false _ (read .before .if1 .left)) (read .hard-reading .ensures) (sym (c .if2 .left) ∙ c .before .is-word .ensures)
+    let read = c .before in
+    let a = read .before .before .before .before .before .args in
+    let with-list = not-false (a .way .second) (read .before .if1 .left) in
+    λ i h checks. is-searched (a .way .second) (a .way .threshold) i (a .soft .now) _ with-list (read .checked-reading .ensures i h (checks with-list)) (c .if2 .left)
 
 pub unsearched-word-spec : {M : Type 1} → statement M
 unsearched-word-spec =
-    tie.close (tie.spec returns hard-reading-requires is-word-requires returns-2 returns-3)
+    tie.close (tie.spec returns checked-reading-requires returns-2 returns-3)

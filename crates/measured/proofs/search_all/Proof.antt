@@ -11,6 +11,7 @@ use Rattle.trellis.specs.Demand.{Search}
 use Rattle.trellis.specs.Trellis.{WordFound}
 use Rattle.trellis.specs.TwoWords.{searchedBy}
 use Rattle.search.specs.Outcomes.{TablesFor}
+use Rattle.list_of_two.specs.Hard.{HardFor}
 use Rattle.list_of_two.specs.Ways.{choiceOf}
 use Rattle.stack.specs.Places.{Room}
 use Rattle.search.proofs.ShortSearch.{column-searchable}
@@ -21,14 +22,14 @@ use Rattle.measured.proofs.search_all.Statement.{statement}
 use Rattle.measured.proofs.search_all.Tie as tie
 
 abbrev Inv-loop : tie.InvT-loop
-Inv-loop soft level left right values way sums₀ lens₀ bits₀ fold₀ a₀ sums lens bits fold a = (a ≤ length soft) × (a % 30 ≡ 0) × Room sums lens bits
-    × ((s : Search) → TablesFor s level left right values → Folded (λ c. searchedBy (choiceOf way) s short (levelValues level) (way .limit) c level) soft a fold)
+Inv-loop soft left right values checks agreeing way sums₀ lens₀ bits₀ fold₀ a₀ sums lens bits fold a = (a ≤ length soft) × (a % 30 ≡ 0) × Room sums lens bits
+    × ((s : Search) (i : ℕ) → i < 4 → TablesFor s i left right values → HardFor (way .second) i values checks agreeing → Folded (λ c. searchedBy (choiceOf way) s short (levelValues i) (way .limit) c i) soft a fold)
 
 abbrev μ-loop : tie.MeasureT-loop
-μ-loop soft level left right values way sums₀ lens₀ bits₀ fold₀ a₀ sums lens bits fold a = length soft - a
+μ-loop soft left right values checks agreeing way sums₀ lens₀ bits₀ fold₀ a₀ sums lens bits fold a = length soft - a
 
 loop-holds : tie.Need-loop-holds Inv-loop μ-loop
-loop-holds c = (search needs, search needs, search needs, λ s tables. none-folded _ _)
+loop-holds c = (search needs, search needs, search needs, λ s i h tables hard. none-folded _ _)
 
 sub-loop : tie.Need-sub-loop Inv-loop μ-loop
 sub-loop c = search needs
@@ -47,19 +48,16 @@ part-search-by-end c = search needs
 
 search-by-requires : tie.Need-search-by-requires Inv-loop μ-loop
 search-by-requires c κs =
-    let at-loop = c .before .before .before .before .before .before .before in
+    let at-loop = c .before .before .before .before .before .before .before .before in
     let start = at-loop .before .before in
     let soft = start .args .soft .now in
     let a = at-loop .loop .a in
     let fits : a + 30 ≤ length soft = omega (arith, at-loop .loop .inv .0) in
-    let tables = start .pre .1 .1 .1 in (
+    let some = start .pre .1 .1 in (
       start .pre .0,
       (
-        start .pre .1 .0,
-        (
-          column-searchable (tables .0) (start .args .level) (start .pre .1 .0) (take (a + 30 - a) (drop a soft)) _ _ _ (part-long soft a fits) (part-range soft a fits (start .pre .1 .1 .0)) (tables .1),
-          at-loop .loop .inv .2,
-        ),
+        column-searchable (some .0) (some .1) (some .2) (take (a + 30 - a) (drop a soft)) _ _ _ (part-long soft a fits) (part-range soft a fits (start .pre .1 .0)) (some .3),
+        ((some .1, some .2, some .4), at-loop .loop .inv .2),
       ),
     )
 
@@ -72,7 +70,7 @@ loop-less c = search needs
 loop-again : tie.Need-loop-again Inv-loop μ-loop
 loop-again c =
     let found = c .before in
-    let turn = found .before .before .before .before .before .before .before in
+    let turn = found .before .before .before .before .before .before .before .before in
     let at-loop = turn .before in
     let start = at-loop .before .before in
     let soft = start .args .soft .now in
@@ -83,11 +81,11 @@ loop-again c =
       fits,
       whole,
       found .search-by .ensures .0,
-      λ s tables.
+      λ s i h tables hard.
           let way = start .args .way in
-          let search : List ℕ → SearchResult WordFound = λ x. searchedBy (choiceOf way) s short (levelValues (start .args .level)) (way .limit) x (start .args .level) in
+          let search : List ℕ → SearchResult WordFound = λ x. searchedBy (choiceOf way) s short (levelValues i) (way .limit) x i in
           subst⁻¹ (λ (x : ℕ). Folded search soft (a + 30) (bitXor (at-loop .loop .fold) x)) (c .folded .ensures)
-          (one-more-folded search soft a _ _ (inv .1) (inv .3 s tables) (found .search-by .ensures .1 s tables)),
+          (one-more-folded search soft a _ _ (inv .1) (inv .3 s i h tables hard) (found .search-by .ensures .1 s i h tables hard)),
     )
 
 returns : tie.Need-returns Inv-loop μ-loop
@@ -96,7 +94,7 @@ returns c =
     let inv = at-loop .loop .inv in
     let soft = at-loop .before .before .args .soft .now in
     let last : length soft - at-loop .loop .a < 30 = omega (arith, c .loop-test .left) in
-    λ s tables. all-folded _ soft _ _ (inv .1) (inv .0) last (inv .3 s tables)
+    λ s i h tables hard. all-folded _ soft _ _ (inv .1) (inv .0) last (inv .3 s i h tables hard)
 
 pub search-all-spec : {M : Type 1} → statement M
 search-all-spec =

@@ -8,7 +8,7 @@ use Rattle.store_searches.proofs.search_by_tables.Tie as tie
 
 search-by-requires : tie.Need-search-by-requires
 search-by-requires c κs =
-    let start = c .before .before .before .before .before .before in
+    let start = c .before .before .before .before .before .before .before in
     (start .pre .0, (start .pre .1 .0, (start .pre .1 .1, record { sums = refl; lens = refl; bits = refl })))
 
 enum-known-found : tie.Need-enum-known-found
@@ -18,10 +18,10 @@ enum-told : tie.Need-enum-told
 enum-told c = search needs
 
 returns : tie.Need-returns
-returns c = λ s tables. found-answer _ _ _ _ _ (sym (c .before .found .given .1) ∙ c .before .before .before .search-by .ensures .1 s tables) (toZ-ofZ (record { sfits = c .known-told .given .1 .1 .0 .1 }))
+returns c = λ s i h tables hard. found-answer _ _ _ _ _ (sym (c .before .found .given .1) ∙ c .before .before .before .search-by .ensures .1 s i h tables hard) (toZ-ofZ (record { sfits = c .known-told .given .1 .1 .0 .1 }))
 
 returns-2 : tie.Need-returns-2
-returns-2 c = λ s tables. spent-answer _ (sym (c .enum-told .given .1) ∙ c .before .before .search-by .ensures .1 s tables)
+returns-2 c = λ s i h tables hard. spent-answer _ (sym (c .enum-told .given .1) ∙ c .before .before .search-by .ensures .1 s i h tables hard)
 
 pub search-by-tables-spec : {M : Type 1} → statement M
 search-by-tables-spec =

@@ -4,7 +4,7 @@ use Prim.Native.Nat.{ℕ, _≤_, _<_}
 use borrow.Author.Tests.{eq-eqb, ne-eqb, le-ltb, lt-ltb, le-leb, lt-leb, not-true, not-false}
 use Rattle.search.specs.Outcomes.{searchOf}
 use Rattle.questions.specs.Questions.{firstAbove}
-use Rattle.search.proofs.ShortSearch.{column-searchable}
+use Rattle.search.proofs.ShortSearch.{column-searchable, level-table-near}
 use Rattle.list_of_two.proofs.Thresholds.{allowed-is, handed-on}
 use Rattle.store_searches.proofs.Outcomes.{asked-range, by-its-way}
 use borrow.Author.Needs.{needs}
@@ -49,39 +49,51 @@ returns-6 c =
 tables-of-requires : tie.Need-tables-of-requires
 tables-of-requires c κs = search needs
 
+tables-of-requires-2 : tie.Need-tables-of-requires-2
+tables-of-requires-2 c κs =
+    let made = c .before .before .before .before in
+    let level = made .before .before .before .before .before .before .before .if2 .left in
+    (level, level-table-near _ _ level _ _ _ (made .tables-of .ensures))
+
 way-of-requires : tie.Need-way-of-requires
 way-of-requires c κs =
-    let allowed = c .before .before .before .before .before .before in
+    let allowed = c .before .before .before .before .before .before .before .before .before .before in
     sym (allowed .before .threshold-allowed .ensures) ∙ not-false _ (allowed .if5 .left)
 
 search-by-tables-requires : tie.Need-search-by-tables-requires
 search-by-tables-requires c κs =
-    let made = c .before .before .before .before .before .before .before in
+    let way = c .before .before .before .before .before in
+    let hard = way .before .before .before in
+    let made = hard .before .before .before .before .before in
     let good = made .before in
     let asked = good .before .before .before .before in
     let start = asked .before .before .before .before .before in
     let soft = start .args .soft .now in
+    let level = asked .before .before .if2 .left in
     let in-range : 30 ≤ firstAbove soft 7 = subst (λ (t : ℕ). 30 ≤ t) (good .before .first-above .ensures) (good .if6 .left) in (
-      subst⁻¹ (λ (l : ℕ). l ≤ 2000) (c .before .before .before .way-of .ensures .0) (asked .if4 .left),
+      subst⁻¹ (λ (l : ℕ). l ≤ 2000) (way .way-of .ensures .0 .0) (asked .if4 .left),
       (
-        asked .before .before .if2 .left,
-        column-searchable (searchOf (start .args .in-supercodes)) (start .args .level) (asked .before .before .if2 .left) soft _ _ _ (asked .before .before .before .if1 .left) (asked-range soft in-range) (made .tables-of .ensures),
+        column-searchable (searchOf (start .args .in-supercodes)) (start .args .level) level soft _ _ _ (asked .before .before .before .if1 .left) (asked-range soft in-range) (made .tables-of .ensures),
+        (start .args .level, level, λ with-list. hard .tables-of2 .ensures .2 (sym (way .way-of .ensures .1) ∙ with-list)),
       ),
     )
 
 returns-7 : tie.Need-returns-7
 returns-7 c =
-    let made = c .before .before .before .before .before .before .before .before in
+    let way = c .before .before .before .before .before .before in
+    let hard = way .before .before .before in
+    let made = hard .before .before .before .before .before in
     let good = made .before in
     let allowed = good .before .before in
     let asked = allowed .before .before in
     let start = asked .before .before .before .before .before in
     let soft = start .args .soft .now in
+    let level = asked .before .before .if2 .left in
     let values-in-range : 30 ≤ firstAbove soft 7 = subst (λ (t : ℕ). 30 ≤ t) (good .before .first-above .ensures) (good .if6 .left) in
     let in-range = allowed-is (start .args .second) (start .args .threshold) (start .fits .threshold) (allowed .before .threshold-allowed .ensures) ∙ not-false _ (allowed .if5 .left) in
-    let way = c .before .before .before .before .way-of .ensures in
-    let found = c .search-by-tables .ensures (searchOf (start .args .in-supercodes)) (made .tables-of .ensures) ∙ by-its-way (c .before .before .before .before .way-of .result) _ _ (way .2 ∙ handed-on (start .args .second) (start .args .threshold) (start .fits .threshold)) (way .0) (searchOf (start .args .in-supercodes)) soft (start .args .level) in
-    simp (eq-eqb _ _ (asked .before .before .before .if1 .left), lt-ltb _ _ (asked .before .before .if2 .left), le-leb _ _ (asked .before .if3 .left), le-leb _ _ (asked .if4 .left), in-range, le-leb _ _ values-in-range, found)
+    let is = way .way-of .ensures in
+    let found = c .search-by-tables .ensures (searchOf (start .args .in-supercodes)) (start .args .level) level (made .tables-of .ensures) (λ with-list. hard .tables-of2 .ensures .2 (sym (is .1) ∙ with-list)) ∙ by-its-way (way .way-of .result) _ _ (is .0 .2 ∙ handed-on (start .args .second) (start .args .threshold) (start .fits .threshold)) (is .0 .0) (searchOf (start .args .in-supercodes)) soft (start .args .level) in
+    simp (eq-eqb _ _ (asked .before .before .before .if1 .left), lt-ltb _ _ level, le-leb _ _ (asked .before .if3 .left), le-leb _ _ (asked .if4 .left), in-range, le-leb _ _ values-in-range, found)
 
 pub search-either-spec : {M : Type 1} → statement M
 search-either-spec =
@@ -96,6 +108,7 @@ search-either-spec =
     first-above-requires
     returns-6
     tables-of-requires
+    tables-of-requires-2
     way-of-requires
     search-by-tables-requires
     returns-7)
