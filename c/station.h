@@ -38,7 +38,9 @@
    reads, in 0 steps. Else it is searched, and where the word found has a sum below the threshold, the search goes on to a second word; of the two the
    one with the larger sum is taken, the first on a tie. The limit and the steps cover both words; where the limit ends the second search, the first
    word stands and the steps are the limit. Sums are -1,800..60 at level 0 and -1,620..240 at level 3: with the threshold -STATION_LARGEST_THRESHOLD no
-   second word is sought, with STATION_LARGEST_THRESHOLD always.
+   second word is sought, with STATION_LARGEST_THRESHOLD for every column that is searched and found. docs/AGING.md has a table of what thresholds do;
+   asking has no list of two, so a station that decodes with it and has to know the damage before the old record is overwritten decodes into a
+   second buffer of STATION_DATA_LEN bytes, reads the report, and copies.
 
    ASK, THEN COMMIT. Decoding writes over its data buffer as soon as there is an answer. A station that has to know the damage before the old record
    is overwritten asks first: station_ask_page touches no data. It returns what station_decode_page would return, with the same report, and fills in
@@ -113,7 +115,8 @@ uint64_t station_decode_page_limit(const uint8_t *soft, size_t soft_len, uint64_
    0.0013 %, with it at 0.032 %, and with STATION_LARGEST_LIMIT from the start at 0.225 %, on the channel of docs/AGING.md. */
 uint64_t station_decode_page(const uint8_t *soft, size_t soft_len, uint8_t *data, size_t data_len, uint8_t *report, size_t report_len);
 
-/* The same with list of two, and with the limit and the threshold named. Refused by 1, 2, 4, 11, 5 and 10. */
+/* station_decode_page_limit with list of two, and with the threshold named; the rates above are worked out without it, see docs/AGING.md. Refused by
+   1, 2, 4, 11, 5 and 10. */
 uint64_t station_decode_page_list(const uint8_t *soft, size_t soft_len, uint64_t limit, int64_t threshold, uint8_t *data, size_t data_len, uint8_t *report, size_t report_len);
 
 /* Asks what station_decode_page_limit would give for the soft page: returns what it would, with the report that it would write, and in place of the
@@ -161,8 +164,8 @@ static inline uint64_t station_changed_mark(const uint8_t report[STATION_REPORT_
 static inline uint64_t station_erased_mark(const uint8_t report[STATION_REPORT_LEN], unsigned level) { return station_mark(report + 20 + 16 * level); }
 
 /* How close a column came to being lost: the lowest sum that a prefix of a column's word has, over the words that the searches returned at all
-   levels. A page that is read surely has 2; the lower, the closer. Erased columns, the lost ones, have none: read it beside station_erased. The
-   report ends in it: two bytes, two's complement, high byte first. */
+   levels; with list of two words taken as they read count too. A page that is read surely has 2; the lower, the closer. Erased columns, the lost
+   ones, have none: read it beside station_erased. The report ends in it: two bytes, two's complement, high byte first. */
 static inline int station_low(const uint8_t report[STATION_REPORT_LEN]) {
     int32_t bits = (int32_t)report[76] << 8 | report[77];
     return (int)(bits < 32768 ? bits : bits - 65536);

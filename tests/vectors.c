@@ -150,10 +150,15 @@ static int way_told(const char *how, const uint8_t *soft, uint64_t level, uint64
     return !strcmp(how, "ended") && answer.count == limit && answer.word == first.word;
 }
 
+/* What the lines of list2.txt end in, and how many end so. */
+static struct { const char *how; unsigned long lines; } endings[] = {{"hard", 0}, {"first", 0}, {"kept", 0}, {"second", 0}, {"ended", 0}, {"9", 0}};
+enum { ENDINGS = sizeof endings / sizeof endings[0] };
+
 /* list2.txt */
 static verdict list_line(const record *r) {
     uint8_t soft[BITS];
     if ((r->count != 6 && r->count != 9) || strlen(r->field[0]) != BITS) return DIFFERS;
+    for (int k = 0; k < ENDINGS; k++) endings[k].lines += !strcmp(r->field[r->count - 1], endings[k].how);
     for (size_t i = 0; i < BITS; i++) soft[i] = (uint8_t)(r->field[0][i] - '0');
     const uint64_t level = decimal(r->field[1]), limit = decimal(r->field[2]);
     const char *mode = r->field[3];
@@ -248,21 +253,23 @@ static verdict both_decoders(const uint8_t *soft) {
     return v;
 }
 
-/* Pages and thresholds with list of two where no supercode search, first or second, was ended by limit 1000. */
-static unsigned long lists_compared;
+/* Pages and thresholds with list of two where no supercode search, first or second, was ended by limit 1000, and second words were sought: the page takes more steps than with the threshold -2000. */
+static unsigned long seconds_compared;
 
 /* Point 1 of document 02: with list of two both decoders agree where no supercode search at levels 1 to 3 is ended by the limit. None is, where a larger limit gives the same data in as many steps:
    the columns are then the same at every level, and a search that the smaller limit ends takes more steps with the larger one. */
 static verdict both_list_decoders(const uint8_t *soft) {
     static const int64_t thresholds[] = {-2000, -60, 0, 60, 2000};
+    uint64_t unsought = 0;
     verdict v = SAME;
     for (size_t i = 0; i < sizeof thresholds / sizeof thresholds[0]; i++) {
         uint8_t by_supercode[DATA] = {0}, by_whole[DATA] = {0}, by_more[DATA] = {0};
         const paged s = decoded(with_list("s", thresholds[i]), soft, SOFT, 1000, by_supercode, DATA), more = decoded(with_list("s", thresholds[i]), soft, SOFT, 2000, by_more, DATA);
         paged w = decoded(with_list("w", thresholds[i]), soft, SOFT, 1000, by_whole, DATA);
         if (!report_right(&s) || !report_right(&w) || !report_right(&more)) v = DIFFERS;
+        if (thresholds[i] == -2000) unsought = s.steps;
         if (s.number || more.number || s.steps != more.steps || memcmp(by_supercode, by_more, DATA)) continue;
-        lists_compared++;
+        seconds_compared += s.steps > unsought;
         const uint64_t steps = w.steps;
         w.steps = s.steps;
         if (!same_report(&s, &more) || !same_report(&s, &w) || steps > s.steps || memcmp(by_supercode, by_whole, DATA)) v = DIFFERS;
@@ -454,7 +461,7 @@ static verdict refusal_line(const record *r) {
     return LEFT;
 }
 
-/* A folder need not have every file. */
+/* A folder need not have every file; where it has list2.txt, each of its endings occurs. */
 static tally check_file(const char *folder, const char *name, verdict (*line_of)(const record *)) {
     tally t = {0, 0, 0};
     char path[4096], line[LINE];
@@ -474,6 +481,11 @@ static tally check_file(const char *folder, const char *name, verdict (*line_of)
         }
     }
     fclose(file);
+    for (int k = 0; line_of == list_line && k < ENDINGS; k++) {
+        if (endings[k].lines) continue;
+        t.differ++;
+        printf("%s: no line ends in %s\n", path, endings[k].how);
+    }
     printf("%s: %lu checked, %lu differ", name, t.checked, t.differ);
     if (t.left) printf(", %lu of calls to come", t.left);
     printf("\n");
@@ -688,6 +700,39 @@ static tally check_lists(void) {
     return t;
 }
 
+/* Columns of level 3 whose first and second word have the same sum: the first stands, be it the smaller number or the larger. Which word is second, and the counts of one word and of both, were
+   found without a stack, from the order of all 64 words and by counting the paths ahead. One step nearer to the second word at the last position, and it wins, in as many steps. */
+static tally check_ties(void) {
+    enum { LEVEL = 3, WORD = 285615441 };
+    static const struct { const char *column; uint64_t first, second; } cases[] = {{"050005000002600050010202020005", WORD, 0}, {"020002000005100020060505050002", 0, WORD}};
+    static const struct { const char *mode; uint64_t one, both; } counts[] = {{"super", 42, 552}, {"whole", 30, 61}};
+    tally t = {0, 0, 0};
+    for (int c = 0; c < 2; c++)
+        for (int k = 0; k < 2; k++) {
+            uint8_t soft[BITS], nearer[BITS];
+            for (int i = 0; i < BITS; i++) nearer[i] = soft[i] = (uint8_t)(cases[c].column[i] - '0');
+            nearer[BITS - 1] = (uint8_t)(cases[c].second & 1 ? soft[BITS - 1] + 1 : soft[BITS - 1] - 1);
+            const char *mode = counts[k].mode;
+            const way list = with_list(mode, 2000);
+            const uint64_t a = cases[c].first, b = cases[c].second, both = counts[k].both;
+            const walk of_a = walk_of(soft, LEVEL, a), of_b = walk_of(soft, LEVEL, b);
+            const found first = {.word = a, .count = counts[k].one, .low = (int16_t)of_a.low}, kept = {.word = a, .count = both, .low = first.low}, ended = {.word = a, .count = both - 1, .low = first.low};
+            const found second = {.word = b, .count = both, .low = (int16_t)walk_of(nearer, LEVEL, b).low};
+            const int right[] = {
+                !entry_reimage(LEVEL, a).number && !entry_reimage(LEVEL, b).number && of_a.sum == of_b.sum,
+                same_found(searched(without_list(mode), soft, BITS, LEVEL, 2000), first),
+                same_found(searched(list, soft, BITS, LEVEL, 2000), kept) && kept.count > first.count,
+                same_found(searched(list, soft, BITS, LEVEL, both), kept),
+                same_found(searched(list, soft, BITS, LEVEL, both - 1), ended),
+                thresholds_agree(mode, soft, LEVEL, 2000),
+                same_found(searched(list, nearer, BITS, LEVEL, both), second),
+            };
+            for (size_t i = 0; i < sizeof right / sizeof right[0]; i++, t.checked++) t.differ += !right[i];
+        }
+    printf("list of two, ties: %lu checked, %lu differ\n", t.checked, t.differ);
+    return t;
+}
+
 static part looked_up(const uint8_t *page, size_t count, size_t column) {
     part p = {page, 0};
     entry_column_of(page, count, column, &p);
@@ -715,7 +760,7 @@ static tally check_look_ups(void) {
 
 int main(int argc, char **argv) {
     const char *folder = argc > 1 ? argv[1] : "tests/vectors";
-    tally parts[TEXTS + 5];
+    tally parts[TEXTS + 6];
     for (int i = 0; i < TEXTS; i++) parts[i] = check_file(folder, texts[i].name, texts[i].line_of);
     count_left(folder, "");
     count_left(folder, "long/");
@@ -724,13 +769,14 @@ int main(int argc, char **argv) {
     parts[TEXTS + 2] = check_commits();
     parts[TEXTS + 3] = check_look_ups();
     parts[TEXTS + 4] = check_lists();
+    parts[TEXTS + 5] = check_ties();
     unsigned long checked = 0, differ = 0;
     if (pages_compared) {
         printf("pages and limits outside the premise where the two decoders differ: %lu\n", pages_apart);
-        printf("pages and thresholds with list of two inside the premise: %lu\n", lists_compared);
-        differ += !pages_apart + !lists_compared;
+        printf("pages and thresholds with list of two inside the premise where second words were sought: %lu\n", seconds_compared);
+        differ += !pages_apart + !seconds_compared;
     }
-    for (int i = 0; i < TEXTS + 5; i++) {
+    for (int i = 0; i < TEXTS + 6; i++) {
         checked += parts[i].checked;
         differ += parts[i].differ;
     }

@@ -12,15 +12,11 @@ use Rattle.concatenated.specs.Lists.{All, sum}
 use Rattle.concatenated.specs.Outer.{RowDecoder}
 use Rattle.concatenated.specs.Decode.{Reader, run, Reaches, AtEveryLevel, decoded}
 use Rattle.concatenated.specs.Readers.{readerOf, deadAhead, Apart, Agree, NoneEnded, sumOver, sumBelow}
-use Rattle.concatenated.proofs.Lists.{all-map}
+use Rattle.concatenated.proofs.Lists.{all-map, all-of-each}
 use Rattle.concatenated.proofs.TwoWords.{unended-searches-differ-by-the-dead-ahead, no-path-is-dead, one-code-is-apart-by-none}
 use Rattle.concatenated.proofs.Agreement.{answers-agree, same-columns}
 
-each : {A : Type 0} (P : A → Type 0) → ((x : A) → P x) → (xs : List A) → All P xs
-each P f [] = tt
-each P f (x ∷ xs) = (f x, each P f xs)
-
--- the lowest level has only its code
+-- the lowest level has only its code; a symbol has a bit, so that no word is the only one of its level: for list of two
 module _ (S : Shape) (searchable : (i : ℕ) → i < levels S → Searchable S i) (some-symbol : 0 < S .symbol) (one-code : S .supercodes 0 .left .generator ≡ generator S 0) (outer : RowDecoder) (choice : Choice) (vs : ℕ → Values) (limit : ℕ) where
   abbrev byWhole : Reader
   byWhole = readerOf choice whole S vs limit
@@ -35,7 +31,7 @@ module _ (S : Shape) (searchable : (i : ℕ) → i < levels S → Searchable S i
     -- in each column search the whole-trellis decoder's count is smaller by exactly the dead paths ahead: of the codeword; with list of two of the second word where one was sought, of the first where none was, and by none for a hard reading
     pub column-searches-differ-by-the-dead-ahead : AtEveryLevel S outer bySupercode page (λ i. All (λ c. Apart (dead i c) (byWhole i c) (bySupercode i c)))
     column-searches-differ-by-the-dead-ahead zero h cs at =
-        each (λ c. Apart (dead 0 c) (byWhole 0 c) (bySupercode 0 c)) (λ c. one-code-is-apart-by-none S 0 (searchable 0 h) some-symbol vs limit c one-code choice) cs
+        all-of-each (λ c. Apart (dead 0 c) (byWhole 0 c) (bySupercode 0 c)) (λ c. one-code-is-apart-by-none S 0 (searchable 0 h) some-symbol vs limit c one-code choice) cs
     column-searches-differ-by-the-dead-ahead (suc i) h cs at =
         all-map cs (λ c unended. unended-searches-differ-by-the-dead-ahead S (suc i) (searchable (suc i) h) some-symbol vs limit c choice unended) (none-ended (suc i) h cs at (omega arith))
 

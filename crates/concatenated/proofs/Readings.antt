@@ -36,7 +36,7 @@ module _ (S : Shape) (i : ℕ) (given : Searchable S i) (vs : ℕ → Values) (l
     found-is-a-word x n e = let w = reads .of-word c x n e in subst⁻¹ (λ (y : WordFound). Word (S .bits) (levelCode S i) (y .column)) (w .2) (w .1 .word)
 
     -- so the symbol that the column enters with is in range
-    pub symbol-in-range : symbol S i (read i c) < 2 ^ S .symbol
+    symbol-in-range : symbol S i (read i c) < 2 ^ S .symbol
     unfolding symbol
     symbol-in-range = go (read i c) refl
       where

@@ -8,7 +8,7 @@ use Rattle.paths.specs.Paths.{Path}
 use Rattle.paths.specs.Search.{SearchResult, answer, limited-search}
 use Rattle.paths.specs.Search
 use Rattle.paths.specs.Dead.{dead-ahead}
-use Rattle.paths.specs.TwoWords.{ended-by-limit, dead-of}
+use Rattle.paths.specs.TwoWords.{ended-by-limit, dead-of-ending}
 use Rattle.trellis.specs.Values.{Values, levelValues}
 use Rattle.trellis.specs.Trellis.{WordFound}
 use Rattle.trellis.specs.Demand.{Search as Kind, supercode, wholeTrellis, supercodeTrellis}
@@ -37,7 +37,7 @@ unfoldable pub deadAhead : Choice → Shape → (ℕ → Values) → ℕ → ℕ
 deadAhead off S vs limit i c =
     deadOf (dead-ahead (wholeTrellis S (vs i) c i) (supercodeTrellis S (vs i) c i)) (limited-search (supercodeTrellis S (vs i) c i) limit)
 deadAhead (on threshold) S vs limit i c =
-    dead-of (dead-ahead (wholeTrellis S (vs i) c i) (supercodeTrellis S (vs i) c i)) (twoWords supercode S (vs i) threshold limit c i)
+    dead-of-ending (dead-ahead (wholeTrellis S (vs i) c i) (supercodeTrellis S (vs i) c i)) (twoWords supercode S (vs i) threshold limit c i)
 
 -- two searches of a column with the same word and low point, or both spent; the second takes d more paths
 abbrev pub Apart : ℕ → Reading → Reading → Type 0

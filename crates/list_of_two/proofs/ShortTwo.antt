@@ -64,10 +64,10 @@ pub word-is-of-the-list : (second : Bool) (threshold : ℤ) (i : ℕ) (soft : Li
 word-is-of-the-list true threshold i soft x e = refl
 word-is-of-the-list false threshold i soft x e = never x e
 
--- no sum near zero is below −2,000
-near-is-not-below : (z : ℤ) → natAbs z ≤ 1800 → ltZ z (negsuc 1999) ≡ false
+-- no number of 16 bits is below the lowest
+near-is-not-below : (z : ℤ) → natAbs z ≤ 32768 → ltZ z (negsuc 32767) ≡ false
 near-is-not-below (pos n) h = refl
-near-is-not-below (negsuc n) h = le-ltb 1999 n (omega (arith, h))
+near-is-not-below (negsuc n) h = le-ltb 32767 n (omega (arith, h))
 
 module _ (i : ℕ) (h : i < 4) (soft left right : List ℕ) (table : List ℤ) (limit : ℕ) (s : Search) (tables : TablesFor s i left right table) where
   abbrev vs : Values
@@ -94,22 +94,22 @@ module _ (i : ℕ) (h : i < 4) (soft left right : List ℕ) (table : List ℤ) (
   bySum k = k .key .sum
 
   -- a word whose sum is not below the threshold is not followed by a second search
-  none-is-sought : (o : SearchResult Path) → ((w : Path) (c : ℕ) → o ≡ answer w c → ltZ (sum vs soft w) (negsuc 1999) ≡ false)
-      → returned bySum limit (after-first bySum (negsuc 1999) (keySearchOn 30 vs soft left right limit) (with-key (key-with-low t (keyOf vs soft)) o)) ≡ with-key (key-with-low t (keyOf vs soft)) o
+  none-is-sought : (o : SearchResult Path) → ((w : Path) (c : ℕ) → o ≡ answer w c → ltZ (sum vs soft w) (negsuc 32767) ≡ false)
+      → returned bySum limit (after-first bySum (negsuc 32767) (keySearchOn 30 vs soft left right limit) (with-key (key-with-low t (keyOf vs soft)) o)) ≡ with-key (key-with-low t (keyOf vs soft)) o
   unfolding after-first returned with-key keyOf
   none-is-sought (answer w c) enough =
       let k = key-with-low t (keyOf vs soft) w in
-      ap (λ (b : Bool). returned bySum limit (cond b (after-second bySum k (keySearchOn 30 vs soft left right limit c)) (one-word k c))) (enough w c refl)
+      ap (λ (b : Bool). returned bySum limit (cond b (after-second k (keySearchOn 30 vs soft left right limit c)) (one-word k c))) (enough w c refl)
   none-is-sought (spent c) enough = refl
 
   -- so with the threshold that no sum is below the search is 01's
-  one-is-searched : keySearchTwo 30 vs soft left right (negsuc 1999) limit ≡ keySearch 30 vs soft left right limit
+  one-is-searched : keySearchTwo 30 vs soft left right (negsuc 32767) limit ≡ keySearch 30 vs soft left right limit
   unfolding keySearchTwo
   one-is-searched =
       let given = searchable i h in
       let sound = trellis-sound short i given vs soft s in
       let found = key-search-has-the-keys vs soft left right t sound (keys-of-trellis short i given vs soft left right s (tables .masks)) (level-not-above i h soft) limit in
-      ap (λ (o : SearchResult (WithLow Key)). returned bySum limit (after-first bySum (negsuc 1999) (keySearchOn 30 vs soft left right limit) o)) found
+      ap (λ (o : SearchResult (WithLow Key)). returned bySum limit (after-first bySum (negsuc 32767) (keySearchOn 30 vs soft left right limit) o)) found
       ∙ none-is-sought (limited-search t limit) (λ w c e.
       let long : length w ≡ 30 = answer-is-the-winner t sound w c limit e .0 .full .long in
       near-is-not-below (sum vs soft w) (omega (arith, sum-near 60 vs (level-values-near i h) soft w, long)))

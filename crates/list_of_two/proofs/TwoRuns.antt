@@ -47,8 +47,8 @@ K g = keyNodes (g .n) (g .vs) (g .soft) (g .left) (g .right)
 abbrev once : Task → SearchResult (WithLow Key)
 once g = keySearch (g .n) (g .vs) (g .soft) (g .left) (g .right) (g .limit)
 
-abbrev on : Task → ℕ → SearchResult (WithLow Key)
-on g = keySearchOn (g .n) (g .vs) (g .soft) (g .left) (g .right) (g .limit)
+abbrev further : Task → ℕ → SearchResult (WithLow Key)
+further g = keySearchOn (g .n) (g .vs) (g .soft) (g .left) (g .right) (g .limit)
 
 abbrev two : Task → SearchResult (WithLow Key)
 two g = keySearchTwo (g .n) (g .vs) (g .soft) (g .left) (g .right) (g .threshold) (g .limit)
@@ -124,16 +124,16 @@ module _ {g : Task} {f : ℕ → Key} {m c : ℕ} {y : Key} {z : ℤ} where
     unfolding keySearchTwo after-first returned outcomeOf
     none-is partial = go (once g) (spent-is (g .n) (g .limit) (g .vs) (g .soft) (g .left) (g .right) f m c y z (a .some) (a .reached) partial)
       where
-        go : (o : SearchResult (WithLow Key)) → Spent ≡ outcomeOf o → Spent ≡ outcomeOf (returned bySum (g .limit) (after-first bySum (g .threshold) (on g) o))
+        go : (o : SearchResult (WithLow Key)) → Spent ≡ outcomeOf o → Spent ≡ outcomeOf (returned bySum (g .limit) (after-first bySum (g .threshold) (further g) o))
         go (answer k d) e = never (k .key .bits) d (k .low) e
         go (spent d) e = refl
 
     -- after the first word
-    by-threshold : {t : Bool} → y .len ≡ g .n → ltZ (handed (y .sum)) (handed (g .threshold)) ≡ t → two g ≡ returned bySum (g .limit) (cond t (after-second bySum (with-low y z) (on g c)) (one-word (with-low y z) c))
+    by-threshold : {t : Bool} → y .len ≡ g .n → ltZ (handed (y .sum)) (handed (g .threshold)) ≡ t → two g ≡ returned bySum (g .limit) (cond t (after-second (with-low y z) (further g c)) (one-word (with-low y z) c))
     unfolding keySearchTwo after-first
     by-threshold full e =
-        ap (λ (o : SearchResult (WithLow Key)). returned bySum (g .limit) (after-first bySum (g .threshold) (on g) o)) (answer-is (g .n) (g .limit) (g .vs) (g .soft) (g .left) (g .right) f m c y z (a .some) (a .reached) full)
-        ∙ ap (λ (t : Bool). returned bySum (g .limit) (cond t (after-second bySum (with-low y z) (on g c)) (one-word (with-low y z) c))) (lt-flag (y .sum) (g .threshold) (a .sum-fits) (a .threshold-fits) e)
+        ap (λ (o : SearchResult (WithLow Key)). returned bySum (g .limit) (after-first bySum (g .threshold) (further g) o)) (answer-is (g .n) (g .limit) (g .vs) (g .soft) (g .left) (g .right) f m c y z (a .some) (a .reached) full)
+        ∙ ap (λ (t : Bool). returned bySum (g .limit) (cond t (after-second (with-low y z) (further g c)) (one-word (with-low y z) c))) (lt-flag (y .sum) (g .threshold) (a .sum-fits) (a .threshold-fits) e)
 
     -- its sum is not below the threshold
     pub one-is : y .len ≡ g .n → ltZ (handed (y .sum)) (handed (g .threshold)) ≡ false → Found (y .bits) c (handed z) ≡ outcomeOf (two g)
@@ -146,16 +146,16 @@ module _ {g : Task} {f : ℕ → Key} {m c : ℕ} {y : Key} {z : ℤ} where
     first = word-is-taken (g .n) (g .limit) (g .vs) (g .soft) (g .left) (g .right) f m c y z (b .taken .first .some) (b .taken .first .reached) (b .taken .full)
 
     -- the second search goes on from where the first stands
-    on-is : on g c ≡ run-keys (K g) always (g .limit - c) c z (grow (K g) y (first .rest))
+    further-is : further g c ≡ run-keys (K g) always (g .limit - c) c z (grow (K g) y (first .rest))
     unfolding keySearchOn first
-    on-is =
+    further-is =
         let steps : c - 0 ≡ c = omega arith in
         let grown = start-grows (g .n) (g .vs) (g .soft) (g .left) (g .right) (b .taken .first .some) in
         ap₂ (run-keys (K g) always (g .limit - c) c) (sym (first .low-is ∙ ap₂ (λ (k : ℕ). low-after (K g) k noneTaken) steps grown)) (sym (first .stack ∙ ap₂ (stack-after (K g)) steps grown))
 
     -- a second word; or none, and the last path taken is no word or still the first, the limit being reached
     abbrev Came : Type 0
-    Came = ((y′ .len ≡ g .n) × (on g c ≡ answer (with-low y′ z′) c′)) ⊎ (((y′ .len < g .n) ⊎ ((y′ ≡ y) × (c′ ≡ g .limit))) × (d : ℕ) × (on g c ≡ spent d))
+    Came = ((y′ .len ≡ g .n) × (further g c ≡ answer (with-low y′ z′) c′)) ⊎ (((y′ .len < g .n) ⊎ ((y′ ≡ y) × (c′ ≡ g .limit))) × (d : ℕ) × (further g c ≡ spent d))
 
     came : Came
     unfolding run-keys
@@ -170,8 +170,8 @@ module _ {g : Task} {f : ℕ → Key} {m c : ℕ} {y : Key} {z : ℤ} where
         short e (inr h) = inr ((h, e))
 
         -- the second search is the run, in two parts
-        parts : (fuel : ℕ) → g .limit - c ≡ fuel + (c′ - c) → on g c ≡ run-keys (K g) always (fuel + (c′ - c)) c z (grow (K g) y (first .rest))
-        parts fuel e = on-is ∙ ap (λ (k : ℕ). run-keys (K g) always k c z (grow (K g) y (first .rest))) e
+        parts : (fuel : ℕ) → g .limit - c ≡ fuel + (c′ - c) → further g c ≡ run-keys (K g) always (fuel + (c′ - c)) c z (grow (K g) y (first .rest))
+        parts fuel e = further-is ∙ ap (λ (k : ℕ). run-keys (K g) always k c z (grow (K g) y (first .rest))) e
 
         go : ((g .limit ≤ c′) × Going (K g) (g .n) (g .limit) f′ c y z (first .rest) m′ c′ y′ z′) ⊎ (Answered (K g) (g .n) (g .limit) f′ c y z (first .rest) m′ c′ y′ z′ ⊎ Ended (K g) (g .n) (g .limit) f′ c y z (first .rest) m′ c′ y′ z′) → Came
         go (inl (h, a)) =
@@ -181,8 +181,8 @@ module _ {g : Task} {f : ℕ → Key} {m c : ℕ} {y : Key} {z : ℤ} where
         go (inr (inr e)) = inr ((inl (omega (arith, e .none, b .taken .first .some)), c′, parts (g .limit - c′) (omega (arith, e .within, e .later)) ∙ e .same always (g .limit - c′)))
 
     -- what the second search came to, returned
-    by-second : {o : SearchResult (WithLow Key)} → on g c ≡ o → outcomeOf (returned bySum (g .limit) (after-second bySum (with-low y z) o)) ≡ outcomeOf (two g)
-    by-second e = sym (ap outcomeOf (by-threshold (b .taken .first) (b .taken .full) (b .taken .below) ∙ ap (λ (x : SearchResult (WithLow Key)). returned bySum (g .limit) (after-second bySum (with-low y z) x)) e))
+    by-second : {o : SearchResult (WithLow Key)} → further g c ≡ o → outcomeOf (returned bySum (g .limit) (after-second (with-low y z) o)) ≡ outcomeOf (two g)
+    by-second e = sym (ap outcomeOf (by-threshold (b .taken .first) (b .taken .full) (b .taken .below) ∙ ap (λ (x : SearchResult (WithLow Key)). returned bySum (g .limit) (after-second (with-low y z) x)) e))
 
     -- no second word
     pub ended-is : (y′ .len ≡ g .n → ⊥) → Found (y .bits) (g .limit) (handed z) ≡ outcomeOf (two g)
@@ -194,7 +194,7 @@ module _ {g : Task} {f : ℕ → Key} {m c : ℕ} {y : Key} {z : ℤ} where
         go (inr s) = by-second (s .2)
 
     -- two words, returned
-    by-sum : {t : Bool} → ltZ (handed (y .sum)) (handed (y′ .sum)) ≡ t → on g c ≡ answer (with-low y′ z′) c′ → outcomeOf (answer (cond t (with-low y′ z′) (with-low y z)) c′) ≡ outcomeOf (two g)
+    by-sum : {t : Bool} → ltZ (handed (y .sum)) (handed (y′ .sum)) ≡ t → further g c ≡ answer (with-low y′ z′) c′ → outcomeOf (answer (cond t (with-low y′ z′) (with-low y z)) c′) ≡ outcomeOf (two g)
     unfolding returned after-second larger
     by-sum e k =
         ap (λ (t : Bool). outcomeOf (answer (cond t (with-low y′ z′) (with-low y z)) c′)) (sym (lt-flag (y .sum) (y′ .sum) (b .taken .first .sum-fits) (b .sum-fits) e)) ∙ by-second k

@@ -19,9 +19,9 @@ chosen false threshold = off
 abbrev pub choiceOf : Way → Choice
 choiceOf w = chosen (w .second) (w .threshold)
 
--- the sum of the first word below which a second one is sought; without list of two no sum is below it
+-- the sum of the first word below which a second one is sought; without list of two the lowest number of 16 bits
 abbrev pub thresholdOf : Choice → ℤ
-thresholdOf off = negsuc 1999
+thresholdOf off = negsuc 32767
 thresholdOf (on threshold) = threshold
 
 -- the word that is returned unsearched, if there is one

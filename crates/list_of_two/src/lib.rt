@@ -147,14 +147,14 @@ pub fn way_of(limit: u64, in_supercodes: bool, second: bool, threshold: i64) -> 
     }
 }
 
-// The sum of the first word below which a second one is sought; without list of two no sum is below it.
+// The sum of the first word below which a second one is sought; without list of two the lowest number of 16 bits, which no sum is below.
 fn threshold_of(way: Way) -> i16
     ensures { λ r. ⌜ r ≡ thresholdOf (choiceOf way) ⌝ }
 {
     if way.second {
         return way.threshold;
     }
-    -2000
+    -32768
 }
 
 // What the hard reading of a column settles: a word that is returned unsearched, or nothing.

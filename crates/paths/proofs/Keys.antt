@@ -34,7 +34,7 @@ module _ {A : Type 0} (N : Nodes A) where
   stack-after-length (suc k) (x ∷ rest) = omega (arith, stack-after-length k (grow N x rest), grow-length N x rest)
 
   -- an empty stack stays, and so does the lowest sum
-  pub none-after : (k : ℕ) → stack-after N k [] ≡ []
+  none-after : (k : ℕ) → stack-after N k [] ≡ []
   unfolding stack-after
   none-after zero = refl
   none-after (suc k) = refl

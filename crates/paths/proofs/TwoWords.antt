@@ -17,7 +17,7 @@ use Rattle.paths.specs.Tree.{Tree, is-full, Full, Sound, number, Winner,
 use Rattle.paths.specs.Search.{State, SearchResult, answer, spent, start, after, run, limited-search}
 use Rattle.paths.specs.Keys.{with-key}
 use Rattle.paths.specs.Dead.{Within, dead-ahead}
-use Rattle.paths.specs.TwoWords.{Ending, unsearched, first-spent, one-word, second-spent, two-words, after-first, after-second, returned, larger, ended-by-limit, dead-of, ending-with-key, Differ, all-but, second-search, list-of-two, Second, ending-by-numbers}
+use Rattle.paths.specs.TwoWords.{Ending, unsearched, first-spent, one-word, second-spent, two-words, after-first, after-second, returned, larger, ended-by-limit, dead-of-ending, ending-with-key, Differ, all-but, second-search, list-of-two, Second, ending-by-numbers}
 use Rattle.paths.proofs.Booleans.{and-both, both-and, not-both, is-not, not-is, bool-ext}
 use Rattle.paths.proofs.Integers.{not-below}
 use Rattle.paths.proofs.Prefixes.{path-dec, same-equal, equal-same}
@@ -54,7 +54,7 @@ module _ (t : Tree) (sound : Sound t) (w : Path) (win : Winner t w) where
   later-than-the-winner u f ne = ahead-is-earlier t sound w u (win .full) f (win .ahead-of u f ne)
 
   -- the second word is the next full path after the first
-  pub second-is-next : (v : Path) → Second t w v → Next t (λ p. true) (number t w) v
+  second-is-next : (v : Path) → Second t w v → Next t (λ p. true) (number t w) v
   second-is-next v s =
       record {
         full = s .full;
@@ -67,7 +67,7 @@ module _ (t : Tree) (sound : Sound t) (w : Path) (win : Winner t w) where
       go u f l (yes e) = omega (arith, ap (number t) e)
       go u f l (no ne) = omega (arith, ahead-is-earlier t sound v u (s .full) f (s .ahead-of u f (λ e. absurd (omega (arith, ap (number t) e))) ne))
 
-  pub next-is-second : (v : Path) → Next t (λ p. true) (number t w) v → Second t w v
+  next-is-second : (v : Path) → Next t (λ p. true) (number t w) v → Second t w v
   next-is-second v n = record {
     full = n .full;
     other = λ e. absurd (omega (arith, ap (number t) e, n .above));
@@ -91,10 +91,10 @@ module _ (t : Tree) (sound : Sound t) (w : Path) (win : Winner t w) where
           absurd (not-both-ahead (t .before) (sound .order) u v (a .ahead-of v (b .full) (b .other) (λ e. ne (sym e))) (b .ahead-of u (a .full) (a .other) ne))
 
   module _ (v : Path) (second : Second t w v) (limit : ℕ) (found : number t w ≤ limit) where
-    pub second-within-the-limit : number t v ≤ limit → run t (λ p. true) (limit - number t w) (after t (number t w)) ≡ answer v (number t v)
+    second-within-the-limit : number t v ≤ limit → run t (λ p. true) (limit - number t w) (after t (number t w)) ≡ answer v (number t v)
     second-within-the-limit l = run-finds-the-next t sound (λ p. true) (limit - number t w) (number t w) v (second-is-next v second) (omega arith)
 
-    pub second-beyond-the-limit : limit < number t v → run t (λ p. true) (limit - number t w) (after t (number t w)) ≡ spent limit
+    second-beyond-the-limit : limit < number t v → run t (λ p. true) (limit - number t w) (after t (number t w)) ≡ spent limit
     second-beyond-the-limit l =
         let e : number t w + (limit - number t w) ≡ limit = omega arith in
         run-is-spent-before-the-next t sound (λ p. true) (limit - number t w) (number t w) v (second-is-next v second) (omega arith) ∙ ap spent e
@@ -129,23 +129,23 @@ module _ (t : Tree) (sound : Sound t) (w : Path) (win : Winner t w) where
     ends-by-the-numbers = ap (cond (is-full t hard && t .exists hard) (unsearched hard)) (first (leb (number t w) limit) refl)
       where
         below : (b : Bool) → leb (number t w) limit ≡ true → leb (number t v) limit ≡ b
-            → after-second (t .sum) w (second-search t threshold hard limit (number t w)) ≡ cond b (two-words w v (number t v)) (second-spent w)
-        below true k e = ap (after-second (t .sum) w) (second-within-the-limit v second limit (leb-true _ _ k) (leb-true _ _ e))
-        below false k e = ap (after-second (t .sum) w) (second-beyond-the-limit v second limit (leb-true _ _ k) (leb-false _ _ e))
+            → after-second w (second-search t limit (number t w)) ≡ cond b (two-words w v (number t v)) (second-spent w)
+        below true k e = ap (after-second w) (second-within-the-limit v second limit (leb-true _ _ k) (leb-true _ _ e))
+        below false k e = ap (after-second w) (second-beyond-the-limit v second limit (leb-true _ _ k) (leb-false _ _ e))
 
         sought : (b : Bool) → leb (number t w) limit ≡ true
-            → cond b (after-second (t .sum) w (second-search t threshold hard limit (number t w))) (one-word w (number t w))
+            → cond b (after-second w (second-search t limit (number t w))) (one-word w (number t w))
             ≡ cond b (cond (leb (number t v) limit) (two-words w v (number t v)) (second-spent w)) (one-word w (number t w))
         sought true k = below (leb (number t v) limit) k refl
         sought false k = refl
 
         first : (b : Bool) → leb (number t w) limit ≡ b
-            → after-first (t .sum) threshold (second-search t threshold hard limit) (limited-search t limit)
+            → after-first (t .sum) threshold (second-search t limit) (limited-search t limit)
             ≡ cond b (cond (ltZ (t .sum w) threshold) (cond (leb (number t v) limit) (two-words w v (number t v)) (second-spent w)) (one-word w (number t w))) (first-spent limit)
         first true e =
-            ap (after-first (t .sum) threshold (second-search t threshold hard limit)) (winner-within-the-limit-is-the-answer t sound w win limit (leb-true _ _ e))
+            ap (after-first (t .sum) threshold (second-search t limit)) (winner-within-the-limit-is-the-answer t sound w win limit (leb-true _ _ e))
             ∙ sought (ltZ (t .sum w) threshold) e
-        first false e = ap (after-first (t .sum) threshold (second-search t threshold hard limit)) (winner-beyond-the-limit-spends-it t sound w win limit (leb-false _ _ e))
+        first false e = ap (after-first (t .sum) threshold (second-search t limit)) (winner-beyond-the-limit-spends-it t sound w win limit (leb-false _ _ e))
 
 -- the hard reading is in the code exactly if it is a full path
 pub in-code-is-full : (t : Tree) → Sound t → (p : Path) → ((is-full t p && t .exists p) ≡ true) ↔ Full t p
@@ -161,7 +161,7 @@ in-code-is-full t sound p = (
 pub hard-reading-is-unsearched : (t : Tree) → Sound t → (threshold : ℤ) (hard : Path) (limit : ℕ) → Full t hard → list-of-two t threshold hard limit ≡ unsearched hard
 unfolding list-of-two
 hard-reading-is-unsearched t sound threshold hard limit f =
-    ap (λ (b : Bool). cond b (unsearched hard) (after-first (t .sum) threshold (second-search t threshold hard limit) (limited-search t limit))) (in-code-is-full t sound hard .1 f)
+    ap (λ (b : Bool). cond b (unsearched hard) (after-first (t .sum) threshold (second-search t limit) (limited-search t limit))) (in-code-is-full t sound hard .1 f)
 
 -- ---- what is returned
 
@@ -171,7 +171,7 @@ module _ (t : Tree) (sound : Sound t) (threshold : ℤ) (hard : Path) (limit : �
   IsFull (answer w n) = Full t w × (n ≤ limit)
   IsFull (spent n) = Unit {0}
 
-  second-returns : (w : Path) (c : ℕ) → Full t w → c ≤ limit → (o : SearchResult Path) → second-search t threshold hard limit c ≡ o → IsFull (returned (t .sum) limit (after-second (t .sum) w o))
+  second-returns : (w : Path) (c : ℕ) → Full t w → c ≤ limit → (o : SearchResult Path) → second-search t limit c ≡ o → IsFull (returned (t .sum) limit (after-second w o))
   unfolding second-search returned after-second larger
   second-returns w c f l (spent n) e = (f, le-refl limit)
   second-returns w c f l (answer v n) e =
@@ -182,15 +182,15 @@ module _ (t : Tree) (sound : Sound t) (threshold : ℤ) (hard : Path) (limit : �
       go true g = g
       go false g = f
 
-  first-returns : (o : SearchResult Path) → limited-search t limit ≡ o → IsFull (returned (t .sum) limit (after-first (t .sum) threshold (second-search t threshold hard limit) o))
+  first-returns : (o : SearchResult Path) → limited-search t limit ≡ o → IsFull (returned (t .sum) limit (after-first (t .sum) threshold (second-search t limit) o))
   unfolding returned after-first
   first-returns (spent n) e = tt
   first-returns (answer w c) e =
       let r = answer-is-the-winner t sound w c limit e in
       go (r .0 .full) (omega (arith, r .1, r .2)) (ltZ (t .sum w) threshold)
     where
-      go : Full t w → c ≤ limit → (b : Bool) → IsFull (returned (t .sum) limit (cond b (after-second (t .sum) w (second-search t threshold hard limit c)) (one-word w c)))
-      go f l true = second-returns w c f l (second-search t threshold hard limit c) refl
+      go : Full t w → c ≤ limit → (b : Bool) → IsFull (returned (t .sum) limit (cond b (after-second w (second-search t limit c)) (one-word w c)))
+      go f l true = second-returns w c f l (second-search t limit c) refl
       go f l false = (f, l)
 
   returns : IsFull (returned (t .sum) limit (list-of-two t threshold hard limit))
@@ -198,7 +198,7 @@ module _ (t : Tree) (sound : Sound t) (threshold : ℤ) (hard : Path) (limit : �
   returns = go (is-full t hard && t .exists hard) refl
     where
       go : (b : Bool) → (is-full t hard && t .exists hard) ≡ b
-          → IsFull (returned (t .sum) limit (cond b (unsearched hard) (after-first (t .sum) threshold (second-search t threshold hard limit) (limited-search t limit))))
+          → IsFull (returned (t .sum) limit (cond b (unsearched hard) (after-first (t .sum) threshold (second-search t limit) (limited-search t limit))))
       go true e = (in-code-is-full t sound hard .0 e, omega arith)
       go false e = first-returns (limited-search t limit) refl
 
@@ -210,15 +210,15 @@ module _ (t : Tree) (sound : Sound t) (threshold : ℤ) (hard : Path) (limit : �
 -- endings by numbers that differ by what the dead paths ahead of each word are
 module _ (sum : Path → ℤ) (threshold : ℤ) (limit : ℕ) (hard w v : Path) (m n : ℕ) (dead : Path → ℕ) where
   endings-differ : (in-code : Bool) → ended-by-limit (ending-by-numbers sum threshold limit in-code hard w v (m + dead w) (n + dead v)) ≡ false
-      → Differ (dead-of dead (ending-by-numbers sum threshold limit in-code hard w v (m + dead w) (n + dead v)))
+      → Differ (dead-of-ending dead (ending-by-numbers sum threshold limit in-code hard w v (m + dead w) (n + dead v)))
       (returned sum limit (ending-by-numbers sum threshold limit in-code hard w v m n)) (returned sum limit (ending-by-numbers sum threshold limit in-code hard w v (m + dead w) (n + dead v)))
-  unfolding ending-by-numbers ended-by-limit dead-of returned
+  unfolding ending-by-numbers ended-by-limit dead-of-ending returned
   endings-differ true e = (refl, refl)
   endings-differ false e = go (ltZ (sum w) threshold) (leb m limit) (leb n limit) (leb (m + dead w) limit) (leb (n + dead v) limit) refl refl refl refl e
     where
       go : (s a b c d : Bool) → leb m limit ≡ a → leb n limit ≡ b → leb (m + dead w) limit ≡ c → leb (n + dead v) limit ≡ d
           → ended-by-limit (cond c (cond s (cond d (two-words w v (n + dead v)) (second-spent w)) (one-word w (m + dead w))) (first-spent limit)) ≡ false
-          → Differ (dead-of dead (cond c (cond s (cond d (two-words w v (n + dead v)) (second-spent w)) (one-word w (m + dead w))) (first-spent limit)))
+          → Differ (dead-of-ending dead (cond c (cond s (cond d (two-words w v (n + dead v)) (second-spent w)) (one-word w (m + dead w))) (first-spent limit)))
           (returned sum limit (cond a (cond s (cond b (two-words w v n) (second-spent w)) (one-word w m)) (first-spent limit)))
           (returned sum limit (cond c (cond s (cond d (two-words w v (n + dead v)) (second-spent w)) (one-word w (m + dead w))) (first-spent limit)))
       go s a b false d ea eb ec ed h = absurd (not-both true h refl)
@@ -229,7 +229,7 @@ module _ (sum : Path → ℤ) (threshold : ℤ) (limit : ℕ) (hard w v : Path) 
       go true true true true true ea eb ec ed h = (refl, refl)
 
 module _ (small large : Tree) (sound-small : Sound small) (sound-large : Sound large) (within : Within small large) where
-  pub both-have-the-same-second : (w v : Path) → Second large w v → Second small w v
+  both-have-the-same-second : (w v : Path) → Second large w v → Second small w v
   both-have-the-same-second w v s = record {
     full = within .full-too v (s .full);
     other = s .other;
@@ -271,17 +271,17 @@ module _ (small large : Tree) (sound-small : Sound small) (sound-large : Sound l
 
     -- where the limit ended no search of the larger tree, the smaller tree's search returns the same word, with a count smaller by the dead paths
     pub larger-ending-is-the-smaller-ending : ended-by-limit (list-of-two large threshold hard limit) ≡ false
-        → Differ (dead-of (dead-ahead small large) (list-of-two large threshold hard limit)) (returned (small .sum) limit (list-of-two small threshold hard limit))
+        → Differ (dead-of-ending (dead-ahead small large) (list-of-two large threshold hard limit)) (returned (small .sum) limit (list-of-two small threshold hard limit))
         (returned (large .sum) limit (list-of-two large threshold hard limit))
     larger-ending-is-the-smaller-ending e = go (words .0) (words .1) (words .2) (words .3)
       where
         go : (w v : Path) → Winner large w → Second large w v
-            → Differ (dead-of (dead-ahead small large) (list-of-two large threshold hard limit)) (returned (small .sum) limit (list-of-two small threshold hard limit))
+            → Differ (dead-of-ending (dead-ahead small large) (list-of-two large threshold hard limit)) (returned (small .sum) limit (list-of-two small threshold hard limit))
             (returned (large .sum) limit (list-of-two large threshold hard limit))
         go w v win second =
             subst⁻¹
             (λ (sum : Path → ℤ).
-            Differ (dead-of (dead-ahead small large) (list-of-two large threshold hard limit)) (returned sum limit (list-of-two small threshold hard limit)) (returned (large .sum) limit (list-of-two large threshold hard limit)))
+            Differ (dead-of-ending (dead-ahead small large) (list-of-two large threshold hard limit)) (returned sum limit (list-of-two small threshold hard limit)) (returned (large .sum) limit (list-of-two large threshold hard limit)))
             same-sums
             (rw (larger-ends w v win second, smaller-ends w v win second)
             (endings-differ (large .sum) threshold limit hard w v (number small w) (number small v) (dead-ahead small large) in-code
@@ -303,7 +303,7 @@ module _ (small large : Tree) (sound-small : Sound small) (sound-large : Sound l
 -- ---- keys and paths
 
 module _ {A : Type 0} (key : Path → A) (sum : Path → ℤ) (keySum : A → ℤ) (same-sum : (p : Path) → keySum (key p) ≡ sum p) where
-  second-with-key : (w : Path) (o : SearchResult Path) → after-second keySum (key w) (with-key key o) ≡ ending-with-key key (after-second sum w o)
+  second-with-key : (w : Path) (o : SearchResult Path) → after-second (key w) (with-key key o) ≡ ending-with-key key (after-second w o)
   unfolding after-second with-key ending-with-key
   second-with-key w (answer v c) = refl
   second-with-key w (spent c) = refl
@@ -315,11 +315,11 @@ module _ {A : Type 0} (key : Path → A) (sum : Path → ℤ) (keySum : A → �
   unfolding after-first with-key ending-with-key
   ending-has-the-keys threshold goes-on keys-go-on (spent c) same = refl
   ending-has-the-keys threshold goes-on keys-go-on (answer w c) same =
-      ap (λ (z : ℤ). cond (ltZ z threshold) (after-second keySum (key w) (keys-go-on c)) (one-word (key w) c)) (same-sum w)
-      ∙ ap (λ (e : Ending A). cond (ltZ (sum w) threshold) e (one-word (key w) c)) (ap (after-second keySum (key w)) (same w c refl) ∙ second-with-key w (goes-on c))
+      ap (λ (z : ℤ). cond (ltZ z threshold) (after-second (key w) (keys-go-on c)) (one-word (key w) c)) (same-sum w)
+      ∙ ap (λ (e : Ending A). cond (ltZ (sum w) threshold) e (one-word (key w) c)) (ap (after-second (key w)) (same w c refl) ∙ second-with-key w (goes-on c))
       ∙ go (ltZ (sum w) threshold)
     where
-      go : (b : Bool) → cond b (ending-with-key key (after-second sum w (goes-on c))) (one-word (key w) c) ≡ ending-with-key key (cond b (after-second sum w (goes-on c)) (one-word w c))
+      go : (b : Bool) → cond b (ending-with-key key (after-second w (goes-on c))) (one-word (key w) c) ≡ ending-with-key key (cond b (after-second w (goes-on c)) (one-word w c))
       go true = refl
       go false = refl
 

@@ -23,6 +23,11 @@ pub data Ending (A : Type 0) : Type 0 where
   -- the first and the second word, and the count of both
   two-words : A → A → ℕ → Ending A
 
+-- what the second search came to, after the first word
+unfoldable pub after-second : {A : Type 0} → A → SearchResult A → Ending A
+after-second w (answer v c) = two-words w v c
+after-second w (spent c) = second-spent w
+
 module _ {A : Type 0} (sum : A → ℤ) where
   -- 02: "the larger sum wins, the first on a tie"
   unfoldable pub larger : A → A → A
@@ -35,10 +40,6 @@ module _ {A : Type 0} (sum : A → ℤ) where
   returned limit (one-word w c) = answer w c
   returned limit (second-spent w) = answer w limit
   returned limit (two-words w v c) = answer (larger w v) c
-
-  unfoldable pub after-second : A → SearchResult A → Ending A
-  after-second w (answer v c) = two-words w v c
-  after-second w (spent c) = second-spent w
 
   -- 02: "if the first word's sum is below a threshold, the search goes on to a second word"; what it goes on to depends on the count of the first
   unfoldable pub after-first : ℤ → (ℕ → SearchResult A) → SearchResult A → Ending A
@@ -54,12 +55,12 @@ ended-by-limit (second-spent w) = true
 ended-by-limit (two-words w v c) = false
 
 -- 02: "where a second word was sought, the dead paths by which the counts differ are those ahead of the second word, and a hard reading returned unsearched has none"
-unfoldable pub dead-of : {A : Type 0} → (A → ℕ) → Ending A → ℕ
-dead-of dead (unsearched w) = 0
-dead-of dead (first-spent c) = 0
-dead-of dead (one-word w c) = dead w
-dead-of dead (second-spent w) = 0
-dead-of dead (two-words w v c) = dead v
+unfoldable pub dead-of-ending : {A : Type 0} → (A → ℕ) → Ending A → ℕ
+dead-of-ending dead (unsearched w) = 0
+dead-of-ending dead (first-spent c) = 0
+dead-of-ending dead (one-word w c) = dead w
+dead-of-ending dead (second-spent w) = 0
+dead-of-ending dead (two-words w v c) = dead v
 
 -- the ending with the words' keys
 unfoldable pub ending-with-key : {A B : Type 0} → (A → B) → Ending A → Ending B
@@ -80,14 +81,13 @@ Differ d (spent m) (spent n) = ⊥
 unfoldable pub all-but : Path → Path → Bool
 all-but w p = not (same p w)
 
-module _ (t : Tree) (threshold : ℤ) (hard : Path) (limit : ℕ) where
-  -- the search goes on under the same limit, after the word that was taken as the c-th path
-  unfoldable pub second-search : ℕ → SearchResult Path
-  second-search c = run t (λ w. true) (limit - c) (after t c)
+-- the search goes on under the same limit, after the word that was taken as the c-th path
+unfoldable pub second-search : Tree → ℕ → ℕ → SearchResult Path
+second-search t limit c = run t (λ w. true) (limit - c) (after t c)
 
-  -- 02: "A hard reading that is in the code is returned with 0 steps. Otherwise, .."
-  unfoldable pub list-of-two : Ending Path
-  list-of-two = cond (is-full t hard && t .exists hard) (unsearched hard) (after-first (t .sum) threshold second-search (limited-search t limit))
+-- 02: "A hard reading that is in the code is returned with 0 steps. Otherwise, .."
+unfoldable pub list-of-two : Tree → ℤ → Path → ℕ → Ending Path
+list-of-two t threshold hard limit = cond (is-full t hard && t .exists hard) (unsearched hard) (after-first (t .sum) threshold (second-search t limit) (limited-search t limit))
 
 -- 02: the full path that is ahead of all others but the first
 pub record Second (t : Tree) (w v : Path) : Type 0 where

@@ -6,3 +6,4 @@ pub mod Reports
 pub mod ZeroPage
 pub mod Committing
 pub mod AskThenCommit
+pub mod Thresholds

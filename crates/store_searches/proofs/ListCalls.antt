@@ -2,14 +2,15 @@
 use mathlib.Core.Bool.{Bool, true, false}
 use mathlib.Core.List.{List}
 use mathlib.Core.Logic.{_↔_}
-use mathlib.Core.Path.{_≡_, refl, sym, ap, _∙_}
+use mathlib.Core.Path.{_≡_, refl, sym, ap, _∙_, subst}
 use Prim.Native.Nat.{ℕ, _+_, _≤_, _<_}
 use native.Mathlib.Decide.{decLe}
 use native.Mathlib.Omega.{arith}
-use lib.Dec.{lit<}
-use lib.IntN.{ℤ, pos}
+use lib.Dec.{leb, lit<}
+use lib.IntN.{ℤ, pos, natAbs}
 use lib.ListN.{length}
 use lib.Signed.{ltZ}
+use borrow.Author.Tests.{eq-eqb, lt-ltb, le-leb}
 use Rattle.column.specs.Shape.{short}
 use Rattle.paths.specs.Lists.{Lists}
 use Rattle.paths.specs.Paths.{Path}
@@ -18,15 +19,17 @@ use Rattle.paths.specs.Tree.{number as rank}
 use Rattle.paths.specs.Search.{SearchResult, answer, spent}
 use Rattle.paths.specs.Keys.{with-key}
 use Rattle.paths.specs.Dead.{dead-ahead}
-use Rattle.paths.specs.TwoWords.{Ending, first-spent, larger, returned, ended-by-limit, dead-of, Differ}
+use Rattle.paths.specs.TwoWords.{Ending, first-spent, larger, returned, ended-by-limit, dead-of-ending, Differ}
 use Rattle.trellis.specs.Values.{levelValues}
 use Rattle.trellis.specs.Order.{number as columnOf, sum}
-use Rattle.trellis.specs.Trellis.{foundWord}
+use Rattle.trellis.specs.Trellis.{WordFound, foundWord}
 use Rattle.trellis.specs.Demand.{Search, whole, supercode, trellis, wholeTrellis, supercodeTrellis, Codeword, AheadOfAll, Counted, DeadAhead}
 use Rattle.trellis.specs.TwoWords.{on, thresholdAllowed, hardPath, twoWords, searchedTwo, AheadOfAllBut}
 use Rattle.trellis.proofs.Short.{searchable}
 use Rattle.trellis.proofs.Counts.{rank-counts, rank-is-a-number-of-paths, dead-ahead-counts}
 use Rattle.trellis.proofs.TwoWords as TwoWords
+use Rattle.trellis.proofs.Thresholds.{threshold-is-refused-exactly}
+use Rattle.questions.specs.Questions.{ask, firstAbove}
 use Rattle.store_searches.specs.Searches.{number, place, word, count, low, Is, Allowed, outcomeAnswer, searchAnswer}
 use Rattle.store_searches.specs.declared.SearchAnswer.{SearchAnswer}
 use Rattle.store_searches.specs.declared.SearchAnswer.the-variants.{Found, Refused}
@@ -131,57 +134,67 @@ module _ (level : ℕ) (soft : List ℕ) (limit : ℕ) (allowed : Allowed level 
   abbrev ending : Ending Path
   ending = twoWords supercode short (levelValues level) threshold limit soft level
 
-  -- the dead paths of how the supercode search ended
-  abbrev deadPaths : ℕ
-  deadPaths = dead-of (dead-ahead (wholeTrellis short (levelValues level) soft level) (supercodeTrellis short (levelValues level) soft level)) ending
+  -- the whole call answers as the supercode call, with a count smaller by d
+  abbrev DifferBy : ℕ → Type 0
+  DifferBy d =
+      (number (call supercode) ≡ 0) × (number (call whole) ≡ 0) × (word (call whole) ≡ word (call supercode)) × (low (call whole) ≡ low (call supercode)) × (count (call supercode) ≡ count (call whole) + d)
 
   answers-differ : (d : ℕ) (a b : SearchResult Path) → Differ d a b
       → let x = outcomeAnswer (with-key (foundWord sumOf) a) in let y = outcomeAnswer (with-key (foundWord sumOf) b) in
-      (number x ≡ 0) × (word x ≡ word y) × (low x ≡ low y) × (count y ≡ count x + d)
+      (number y ≡ 0) × (number x ≡ 0) × (word x ≡ word y) × (low x ≡ low y) × (count y ≡ count x + d)
   unfolding outcomeAnswer with-key
-  answers-differ d (answer w m) (answer v n) h = (refl, ap columnOf (h .0), ap lowOf (h .0), h .1)
+  answers-differ d (answer w m) (answer v n) h = (refl, refl, ap columnOf (h .0), ap lowOf (h .0), h .1)
   answers-differ d (answer w m) (spent n) h = absurd h
   answers-differ d (spent m) (answer v n) h = absurd h
   answers-differ d (spent m) (spent n) h = absurd h
 
-  -- where the limit ended neither supercode search: the same word and low point, and counts that differ by the dead paths
-  pub list-calls-differ-by-the-dead-ahead : ended-by-limit ending ≡ false
-      → (number (call whole) ≡ 0) × (word (call whole) ≡ word (call supercode)) × (low (call whole) ≡ low (call supercode))
-      × (count (call supercode) ≡ count (call whole) + deadPaths)
-  list-calls-differ-by-the-dead-ahead unended =
-      rw (call-is whole _ refl, call-is supercode _ refl)
-      (answers-differ _ _ _ (TwoWords.supercode-ending-is-whole-ending short level (searchable level (allowed .level)) (lit< tt) (levelValues level) soft threshold limit unended))
+  -- where the limit ended neither supercode search, by the dead paths of how it ended
+  calls-differ : (d : ℕ) → (ended-by-limit ending ≡ false) × (dead-of-ending (dead-ahead (wholeTrellis short (levelValues level) soft level) (supercodeTrellis short (levelValues level) soft level)) ending ≡ d) → DifferBy d
+  calls-differ d unended =
+      subst DifferBy (unended .1)
+      (rw (call-is whole _ refl, call-is supercode _ refl)
+      (answers-differ _ _ _ (TwoWords.supercode-ending-is-whole-ending short level (searchable level (allowed .level)) (lit< tt) (levelValues level) soft threshold limit (unended .0))))
 
   -- "a hard reading returned unsearched has none"
-  pub no-dead-path-for-a-hard-reading : Codeword short level (hardPath soft 30) → (ended-by-limit ending ≡ false) × (deadPaths ≡ 0)
-  unfolding dead-of ended-by-limit
-  no-dead-path-for-a-hard-reading code =
-      let e = TwoWords.hard-reading-in-the-code short level (searchable level (allowed .level)) (levelValues level) soft supercode threshold limit code in
-      (ap ended-by-limit e, ap (dead-of (dead-ahead (wholeTrellis short (levelValues level) soft level) (supercodeTrellis short (levelValues level) soft level))) e)
+  pub list-calls-do-not-differ-for-a-hard-reading : Codeword short level (hardPath soft 30) → DifferBy 0
+  list-calls-do-not-differ-for-a-hard-reading code = calls-differ 0 (TwoWords.hard-reading-has-no-dead-path short level (searchable level (allowed .level)) (lit< tt) (levelValues level) soft threshold limit code)
 
   -- of a column that is searched: w is the first word and v the second, ps and qs the lists of their paths in the supercode search
   module _ (searched : Codeword short level (hardPath soft 30) → ⊥) (w : Path) (best : AheadOfAll short (levelValues level) soft level w) (ps : List Path) (listed : Lists (Counted supercode short (levelValues level) soft level w) ps)
       (v : Path) (second : AheadOfAllBut short (levelValues level) soft level w v) (qs : List Path) (second-listed : Lists (Counted supercode short (levelValues level) soft level v) qs) (found : length ps ≤ limit) where
-    found-by-rank-too : rank (supercodeTrellis short (levelValues level) soft level) w ≤ limit
-    found-by-rank-too = omega (arith, many supercode searched w best ps listed v second qs second-listed)
+    found-too : rank (supercodeTrellis short (levelValues level) soft level) w ≤ limit
+    found-too = found-by-rank supercode searched w best ps listed v second qs second-listed found
 
-    -- those ahead of the first word, where no second was sought
-    pub dead-paths-ahead-of-the-first : ltZ (sumOf w) threshold ≡ false → (ds : List Path) → Lists (DeadAhead short (levelValues level) soft level w) ds → (ended-by-limit ending ≡ false) × (deadPaths ≡ length ds)
-    unfolding dead-of ended-by-limit
-    dead-paths-ahead-of-the-first enough ds dead =
-        let e = TwoWords.first-word-stands short level (searchable level (allowed .level)) (lit< tt) (levelValues level) soft supercode w v best second threshold limit searched found-by-rank-too enough in (
-          ap ended-by-limit e,
-          ap (dead-of (dead-ahead (wholeTrellis short (levelValues level) soft level) (supercodeTrellis short (levelValues level) soft level))) e
-              ∙ sym (dead-ahead-counts short level (searchable level (allowed .level)) (levelValues level) soft w ds dead),
-        )
+    -- by the dead paths ahead of the first word, where no second was sought; ds is their list
+    pub list-calls-differ-by-the-dead-ahead-of-the-first : ltZ (sumOf w) threshold ≡ false → (ds : List Path) → Lists (DeadAhead short (levelValues level) soft level w) ds → DifferBy (length ds)
+    list-calls-differ-by-the-dead-ahead-of-the-first enough ds dead =
+        let e = TwoWords.dead-paths-ahead-of-the-first short level (searchable level (allowed .level)) (lit< tt) (levelValues level) soft w v best second threshold limit searched found-too enough in
+        calls-differ (length ds) (e .0, e .1 ∙ sym (dead-ahead-counts short level (searchable level (allowed .level)) (levelValues level) soft w ds dead))
 
     -- "where a second word was sought, the dead paths by which the counts differ are those ahead of the second word"
-    pub dead-paths-ahead-of-the-second : ltZ (sumOf w) threshold ≡ true → length qs ≤ limit → (ds : List Path) → Lists (DeadAhead short (levelValues level) soft level v) ds → (ended-by-limit ending ≡ false) × (deadPaths ≡ length ds)
-    unfolding dead-of ended-by-limit
-    dead-paths-ahead-of-the-second below l ds dead =
+    pub list-calls-differ-by-the-dead-ahead-of-the-second : ltZ (sumOf w) threshold ≡ true → length qs ≤ limit → (ds : List Path) → Lists (DeadAhead short (levelValues level) soft level v) ds → DifferBy (length ds)
+    list-calls-differ-by-the-dead-ahead-of-the-second below l ds dead =
         let within : rank (supercodeTrellis short (levelValues level) soft level) v ≤ limit = omega (arith, many-to-the-second supercode searched w best ps listed v second qs second-listed) in
-        let e = TwoWords.second-word-is-found short level (searchable level (allowed .level)) (lit< tt) (levelValues level) soft supercode w v best second threshold limit searched found-by-rank-too below within in (
-          ap ended-by-limit e,
-          ap (dead-of (dead-ahead (wholeTrellis short (levelValues level) soft level) (supercodeTrellis short (levelValues level) soft level))) e
-              ∙ sym (dead-ahead-counts short level (searchable level (allowed .level)) (levelValues level) soft v ds dead),
-        )
+        let e = TwoWords.dead-paths-ahead-of-the-second short level (searchable level (allowed .level)) (lit< tt) (levelValues level) soft w v best second threshold limit searched found-too below within in
+        calls-differ (length ds) (e .0, e .1 ∙ sym (dead-ahead-counts short level (searchable level (allowed .level)) (levelValues level) soft v ds dead))
+
+-- no later question is 11
+never-11 : (b : Bool) (p : ℕ) (o : SearchResult WordFound) → number (ask b (Refused 5 p) (outcomeAnswer o)) ≡ 11 → ⊥
+unfolding outcomeAnswer
+never-11 false p o e = absurd (omega (arith, e))
+never-11 true p (answer w c) e = absurd (omega (arith, e))
+never-11 true p (spent c) e = absurd (omega (arith, e))
+
+-- "11, threshold outside −2,000..2,000, asked after 4": of a call whose lengths, level and limit are right, exactly then
+pub list-call-is-11-exactly-outside : (threshold : ℤ) (s : Search) (level : ℕ) (soft : List ℕ) (limit : ℕ) → length soft ≡ 30 → level < 4 → 1 ≤ limit → limit ≤ 2000
+    → (number (searchAnswer (on threshold) s level soft limit) ≡ 11) ↔ (2000 < natAbs threshold)
+list-call-is-11-exactly-outside threshold s level soft limit full in-level some most =
+    let asked-so : searchAnswer (on threshold) s level soft limit ≡ ask (thresholdAllowed (on threshold)) (Refused 11 0) rest = rw (eq-eqb _ _ full, lt-ltb _ _ in-level, le-leb _ _ some, le-leb _ _ most) refl in
+    (λ e. outside (thresholdAllowed (on threshold)) refl (ap number (sym asked-so) ∙ e), λ l. ap number (asked-so ∙ ap (λ (b : Bool). ask b (Refused 11 0) rest) (threshold-is-refused-exactly threshold .1 l)))
+  where
+    rest : SearchAnswer
+    rest = ask (leb 30 (firstAbove soft 7)) (Refused 5 (firstAbove soft 7)) (outcomeAnswer (searchedTwo s short (levelValues level) threshold limit soft level))
+
+    outside : (b : Bool) → thresholdAllowed (on threshold) ≡ b → number (ask b (Refused 11 0) rest) ≡ 11 → 2000 < natAbs threshold
+    outside true e n = absurd (never-11 (leb 30 (firstAbove soft 7)) (firstAbove soft 7) (searchedTwo s short (levelValues level) threshold limit soft level) n)
+    outside false e n = threshold-is-refused-exactly threshold .0 e

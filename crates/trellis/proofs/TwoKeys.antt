@@ -31,7 +31,7 @@ use Rattle.trellis.proofs.TwoWords.{hard-reading-in-the-code}
 module _ (vs : Values) (soft left right : List ℕ) (t : Tree) (sound : Sound t) (keys : KeysOf t (keyNodes (t .size) vs soft left right) (keyOf vs soft)) (high : NotAbove (t .size) vs soft) (threshold : ℤ) (hard : Path) (limit : ℕ) where
   -- after the first word
   goes-on : (w : Path) (c : ℕ) → limited-search t limit ≡ answer w c
-      → keySearchOn (t .size) vs soft left right limit c ≡ with-key (key-with-low t (keyOf vs soft)) (second-search t threshold hard limit c)
+      → keySearchOn (t .size) vs soft left right limit c ≡ with-key (key-with-low t (keyOf vs soft)) (second-search t limit c)
   unfolding keySearchOn second-search keyOf sum number
   goes-on w c e =
       let N = keyNodes (t .size) vs soft left right in
@@ -48,7 +48,7 @@ module _ (vs : Values) (soft left right : List ℕ) (t : Tree) (sound : Sound t)
   keys-return e =
       ap (λ (o : SearchResult (WithLow Key)). by-bits (returned keySum limit (after-first keySum threshold (keySearchOn (t .size) vs soft left right limit) o))) (key-search-has-the-keys vs soft left right t sound keys high limit)
       ∙ ap (λ (x : Ending (WithLow Key)). by-bits (returned keySum limit x))
-      (ending-has-the-keys (key-with-low t (keyOf vs soft)) (t .sum) keySum (keys .same-sum) threshold (second-search t threshold hard limit) (keySearchOn (t .size) vs soft left right limit) (limited-search t limit) goes-on)
+      (ending-has-the-keys (key-with-low t (keyOf vs soft)) (t .sum) keySum (keys .same-sum) threshold (second-search t limit) (keySearchOn (t .size) vs soft left right limit) (limited-search t limit) goes-on)
       ∙ ap by-bits (returned-has-the-key (key-with-low t (keyOf vs soft)) (t .sum) keySum (keys .same-sum) limit rest)
       ∙ bits-of vs soft t (returned (t .sum) limit rest)
       ∙ ap (λ (b : Bool). with-key (foundWord (t .sum)) (returned (t .sum) limit (cond b (unsearched hard) rest))) (sym e)
@@ -57,15 +57,15 @@ module _ (vs : Values) (soft left right : List ℕ) (t : Tree) (sound : Sound t)
       keySum k = k .key .sum
 
       rest : Ending Path
-      rest = after-first (t .sum) threshold (second-search t threshold hard limit) (limited-search t limit)
+      rest = after-first (t .sum) threshold (second-search t limit) (limited-search t limit)
 
 module _ (S : Shape) (i : ℕ) (given : Searchable S i) (vs : Values) (soft : List ℕ) where
   -- the hard reading is in the code exactly if it is a word of the level
-  pub word-is-in-code : isWord S i (number (hardPath soft (S .bits))) ≡ true → Codeword S i (hardPath soft (S .bits))
+  word-is-in-code : isWord S i (number (hardPath soft (S .bits))) ≡ true → Codeword S i (hardPath soft (S .bits))
   word-is-in-code e =
       record { long = hard-path-length soft (S .bits); word = word-exactly S (given .sound) i (number (hardPath soft (S .bits))) (given .level) (hard-path-below soft (S .bits)) .0 e }
 
-  pub no-word-is-not-in-code : (s : Search) → isWord S i (number (hardPath soft (S .bits))) ≡ false
+  no-word-is-not-in-code : (s : Search) → isWord S i (number (hardPath soft (S .bits))) ≡ false
       → (is-full (trellis s S vs soft i) (hardPath soft (S .bits)) && trellis s S vs soft i .exists (hardPath soft (S .bits))) ≡ false
   no-word-is-not-in-code s e =
       let t = trellis s S vs soft i in

@@ -17,7 +17,7 @@ use Rattle.paths.specs.Tree.{Tree, is-full, Full, Winner, number as rank}
 use Rattle.paths.specs.Search.{SearchResult, answer, spent}
 use Rattle.paths.specs.Keys.{with-key}
 use Rattle.paths.specs.Dead.{dead-ahead}
-use Rattle.paths.specs.TwoWords.{unsearched, first-spent, one-word, second-spent, two-words, returned, ended-by-limit, dead-of, Differ, list-of-two, Second, ending-by-numbers}
+use Rattle.paths.specs.TwoWords.{unsearched, first-spent, one-word, second-spent, two-words, returned, ended-by-limit, dead-of-ending, Differ, list-of-two, Second, ending-by-numbers}
 use Rattle.paths.proofs.Booleans.{is-false, not-both}
 use Rattle.paths.proofs.Run.{answer-is-not-spent}
 use Rattle.paths.proofs.TwoWords as Tree
@@ -68,7 +68,7 @@ module _ (S : Shape) (i : ℕ) (given : Searchable S i) (some-symbol : 0 < S .sy
       let p = number-has-a-path (S .bits) (x .0) (x .1 .0) in
       (p .0, record { long = p .1; word = subst⁻¹ (Word (S .bits) (levelCode S i)) (p .2) (x .1) }, λ e. x .2 (sym (p .2) ∙ ap number e))
 
-  pub second-is-ahead-of-all-but-the-first : (s : Search) (w v : Path) → Second (trellis s S vs soft i) w v ↔ AheadOfAllBut S vs soft i w v
+  second-is-ahead-of-all-but-the-first : (s : Search) (w v : Path) → Second (trellis s S vs soft i) w v ↔ AheadOfAllBut S vs soft i w v
   second-is-ahead-of-all-but-the-first s w v = (
     λ (h : Second (trellis s S vs soft i) w v). record {
       codeword = full-is-codeword S i given vs soft s v .0 (h .full);
@@ -141,13 +141,42 @@ module _ (S : Shape) (i : ℕ) (given : Searchable S i) (some-symbol : 0 < S .sy
 
   -- ---- (3) the two searches
 
+  -- the dead paths of how the supercode search ended
+  abbrev deadPaths : ℤ → ℕ → ℕ
+  deadPaths threshold limit = dead-of-ending (dead-ahead (wholeTrellis S vs soft i) (supercodeTrellis S vs soft i)) (twoWords supercode S vs threshold limit soft i)
+
+  -- "a hard reading returned unsearched has none"
+  pub hard-reading-has-no-dead-path : (threshold : ℤ) (limit : ℕ) → Codeword S i (hardPath soft (S .bits)) → (ended-by-limit (twoWords supercode S vs threshold limit soft i) ≡ false) × (deadPaths threshold limit ≡ 0)
+  unfolding dead-of-ending ended-by-limit
+  hard-reading-has-no-dead-path threshold limit code =
+      let e = hard-reading-in-the-code S i given vs soft supercode threshold limit code in
+      (ap ended-by-limit e, ap (dead-of-ending (dead-ahead (wholeTrellis S vs soft i) (supercodeTrellis S vs soft i))) e)
+
+  module _ (w v : Path) (best : AheadOfAll S vs soft i w) (second : AheadOfAllBut S vs soft i w v) (threshold : ℤ) (limit : ℕ) (searched : Codeword S i (hardPath soft (S .bits)) → ⊥)
+      (found : rank (supercodeTrellis S vs soft i) w ≤ limit) where
+    -- those ahead of the first word, where no second was sought
+    pub dead-paths-ahead-of-the-first : ltZ (sum vs soft w) threshold ≡ false
+        → (ended-by-limit (twoWords supercode S vs threshold limit soft i) ≡ false) × (deadPaths threshold limit ≡ dead-ahead (wholeTrellis S vs soft i) (supercodeTrellis S vs soft i) w)
+    unfolding dead-of-ending ended-by-limit
+    dead-paths-ahead-of-the-first enough =
+        let e = first-word-stands supercode w v best second threshold limit searched found enough in
+        (ap ended-by-limit e, ap (dead-of-ending (dead-ahead (wholeTrellis S vs soft i) (supercodeTrellis S vs soft i))) e)
+
+    -- "where a second word was sought, the dead paths by which the counts differ are those ahead of the second word"
+    pub dead-paths-ahead-of-the-second : ltZ (sum vs soft w) threshold ≡ true → rank (supercodeTrellis S vs soft i) v ≤ limit
+        → (ended-by-limit (twoWords supercode S vs threshold limit soft i) ≡ false) × (deadPaths threshold limit ≡ dead-ahead (wholeTrellis S vs soft i) (supercodeTrellis S vs soft i) v)
+    unfolding dead-of-ending ended-by-limit
+    dead-paths-ahead-of-the-second below within =
+        let e = second-word-is-found supercode w v best second threshold limit searched found below within in
+        (ap ended-by-limit e, ap (dead-of-ending (dead-ahead (wholeTrellis S vs soft i) (supercodeTrellis S vs soft i))) e)
+
   another-full : (w : Path) → Winner (supercodeTrellis S vs soft i) w → (u : Path) × Full (supercodeTrellis S vs soft i) u × (u ≡ w → ⊥)
   another-full w win = let u = another-codeword w in (u .0, full-is-codeword S i given vs soft supercode (u .0) .1 (u .1), u .2)
 
   module _ (threshold : ℤ) (limit : ℕ) where
     -- where the limit ended neither supercode search, the whole search returns the same word, and its count is smaller by the dead paths ahead
     pub supercode-ending-is-whole-ending : ended-by-limit (twoWords supercode S vs threshold limit soft i) ≡ false
-        → Differ (dead-of (dead-ahead (wholeTrellis S vs soft i) (supercodeTrellis S vs soft i)) (twoWords supercode S vs threshold limit soft i))
+        → Differ (dead-of-ending (dead-ahead (wholeTrellis S vs soft i) (supercodeTrellis S vs soft i)) (twoWords supercode S vs threshold limit soft i))
         (returned (sum vs soft) limit (twoWords whole S vs threshold limit soft i)) (returned (sum vs soft) limit (twoWords supercode S vs threshold limit soft i))
     unfolding twoWords
     supercode-ending-is-whole-ending =
