@@ -194,7 +194,7 @@ def tie_table(ties):
 
 
 def list_table(lists):
-    """Of each rate and limit, without list of two and with it: the average steps and changed columns of an answered page, the refused and the wrong pages."""
+    """Of three rates and each limit, without list of two and with it: the average steps and changed columns of an answered page, the refused and the wrong pages."""
     def cell(r):
         n, changed = answered(r), sum(r[f"changed{i}"] for i in range(4))
         return f"{r['steps'] / n:,.0f} / {changed / n:.3g} / {int(r['refused']):,} / {int(r['wrong']):,}" if n else f"– / – / {int(r['refused']):,} / 0"
@@ -202,6 +202,8 @@ def list_table(lists):
     choice = lambda r: f"threshold {int(r['threshold']):,}" if r["list"] else "without"
     heads, rows = {choice(r): None for r in lists}, {}
     for r in lists:
+        if r["rate"] not in (5000, 20000, 40000):
+            continue
         rows.setdefault((r["rate"], int(r["limit"])), {})[choice(r)] = cell(r)
     return lines(["raw errors", "limit", *heads], [[percent(rate), f"{limit:,}", *(row[head] for head in heads)] for (rate, limit), row in rows.items()])
 
