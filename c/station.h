@@ -57,7 +57,7 @@
 
    THREADS. The calls have no state and allocate nothing; they may run at the same time on different buffers.
 
-   STACK. As measured on x86-64, page decoding and asking take some 27 KB and the others up to 4 KB.
+   STACK. As measured on x86-64, page decoding and asking take some 28 KB and the others up to 4 KB.
 
    The archive is libstation.a, made by `rt staticlib station`. It needs memcpy and memset of the C library, and nothing else. */
 #ifndef STATION_H
