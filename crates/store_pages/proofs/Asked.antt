@@ -115,7 +115,7 @@ module _ (B : Buffer) (choice : Choice) (s : Search) (soft : List ℕ) (limit : 
 -- ---- the code's flags
 
 -- the page in a way is that of the choice, the search and the limit that the way names
-pub page-in-its-way : (way : Way) (choice : Choice) (in-supercodes : Bool) (limit : ℕ) → (way .limit ≡ limit) × (way .«in_supercodes» ≡ in-supercodes) × (choiceOf way ≡ choice) → (soft : List ℕ)
+page-in-its-way : (way : Way) (choice : Choice) (in-supercodes : Bool) (limit : ℕ) → (way .limit ≡ limit) × (way .«in_supercodes» ≡ in-supercodes) × (choiceOf way ≡ choice) → (soft : List ℕ)
     → decoded short shortOuter (wayReader way) (softColumns shortPage soft) ≡ decodedPage choice (searchOf in-supercodes) soft limit
 page-in-its-way way choice in-supercodes limit is soft =
     ap₂ (λ (c : Choice) (l : ℕ). decodedPage c (searchOf (way .«in_supercodes»)) soft l) (is .2) (is .0) ∙ ap (λ (b : Bool). decodedPage choice (searchOf b) soft limit) (is .1)
@@ -124,3 +124,13 @@ page-in-its-way way choice in-supercodes limit is soft =
 pub as-handed-on : (second : Bool) (t : ℤ) → SFits w64 t → {B : Buffer} {s : Search} {soft : List ℕ} {limit : ℕ} {old : List ℕ} {r : PageOutcome} {new : List ℕ}
     → PageFilled B (chosen second (toZ w64 (ofZ w64 t))) s soft limit old r new → PageFilled B (chosen second t) s soft limit old r new
 as-handed-on second t fits {B} {s} {soft} {limit} {old} {r} {new} filled = subst (λ (c : Choice). PageFilled B c s soft limit old r new) (handed-on second t fits) filled
+
+-- a call that hands its threshold on, and gives what the page in its way gives
+pub filled-in-its-way : (B : Buffer) (way : Way) (second : Bool) (t : ℤ) → SFits w64 t → (in-supercodes : Bool) (soft : List ℕ) (limit : ℕ) (old : List ℕ)
+    → (way .limit ≡ limit) × (way .«in_supercodes» ≡ in-supercodes) × (choiceOf way ≡ chosen second (toZ w64 (ofZ w64 t)))
+    → Done ≡ askPage (chosen second (toZ w64 (ofZ w64 t))) soft limit (eqb (length old) (B .places)) Refused Done → (r : PageOutcome) (new : List ℕ)
+    → r ≡ outcomeOf (decoded short shortOuter (wayReader way) (softColumns shortPage soft)) → new ≡ filled B old (decoded short shortOuter (wayReader way) (softColumns shortPage soft))
+    → PageFilled B (chosen second t) (searchOf in-supercodes) soft limit old r new
+filled-in-its-way B way second t fits in-supercodes soft limit old is asked r new e b =
+    let page = page-in-its-way way (chosen second _) in-supercodes limit is soft in
+    as-handed-on second t fits (filled-as B (chosen second _) (searchOf in-supercodes) soft limit old asked r new (e ∙ ap outcomeOf page) (b ∙ ap (filled B old) page))

@@ -1,9 +1,13 @@
 -- `store_pages::page_questions` meets its contract: each return rewrites with the tests that led there. Assumes nothing.
-use mathlib.Core.Path.{ap, _∙_}
-use Prim.Native.Nat.{_≤_, _<_}
+use mathlib.Core.Bool.{Bool, true, false}
+use mathlib.Core.Path.{_≡_, ap, _∙_, subst}
+use Prim.Native.Nat.{ℕ, _≤_, _<_}
+use lib.Dec.{leb}
+use Rattle.list_of_two.specs.Ways.{chosen}
 use Rattle.list_of_two.proofs.Thresholds.{allowed-is}
-use Rattle.questions.specs.Questions.{firstAbove}
-use Rattle.questions.specs.declared.Outcome.the-variants.{Refused}
+use Rattle.questions.specs.Questions.{ask, firstAbove}
+use Rattle.questions.specs.declared.Outcome.the-variants.{Done, Refused}
+use Rattle.store_pages.specs.Pages.{askPage}
 use borrow.Author.Tests.{eq-eqb, ne-eqb, le-leb, lt-leb, not-true, not-false}
 use native.Mathlib.Omega.{arith}
 use borrow.Author.Needs.{needs}
@@ -43,27 +47,28 @@ returns-5 c =
 first-above-requires : tie.Need-first-above-requires
 first-above-requires c κs = search needs
 
-returns-6 : tie.Need-returns-6
-returns-6 c =
-    let allowed = c .before .before in
+-- the questions before 5 are answered yes, so 5 decides
+up-to-the-values : (r : tie.After-first-above) → let a = r .before .before .before .before .before .before .before .before .args in
+    (b : Bool) → leb 1890 (firstAbove (a .soft .now) 7) ≡ b → ask b (Refused 5 (firstAbove (a .soft .now) 7)) Done ≡ askPage (chosen (a .second) (a .threshold)) (a .soft .now) (a .limit) (a .room) Refused Done
+up-to-the-values r b values =
+    let allowed = r .before in
     let start = allowed .before .before .before .before .before .before .before in
     let args = start .args in
     let some : 1 ≤ args .limit = omega (arith, allowed .before .before .before .if3 .left) in
     let most : args .limit ≤ 2000 = omega (arith, allowed .before .before .if4 .left) in
     let in-range = allowed-is (args .second) (args .threshold) (start .fits .threshold) (allowed .before .threshold-allowed .ensures) ∙ not-false _ (allowed .if5 .left) in
-    let bad : firstAbove (args .soft .now) 7 < 1890 = omega (arith, c .before .first-above .ensures, c .if6 .taken) in
-    ap (Refused 5) (c .before .first-above .ensures) ∙ simp (eq-eqb _ _ (allowed .before .before .before .before .before .if1 .left), not-false (args .room) (allowed .before .before .before .before .if2 .left), le-leb _ _ some, le-leb _ _ most, in-range, lt-leb _ _ bad)
+    simp (eq-eqb _ _ (allowed .before .before .before .before .before .if1 .left), not-false (args .room) (allowed .before .before .before .before .if2 .left), le-leb _ _ some, le-leb _ _ most, in-range, values)
+
+returns-6 : tie.Need-returns-6
+returns-6 c =
+    let first = c .before .first-above .ensures in
+    let bad : c .before .first-above .result < 1890 = omega (arith, c .if6 .taken) in
+    ap (Refused 5) first ∙ up-to-the-values (c .before) false (lt-leb _ _ (subst (λ (n : ℕ). n < 1890) first bad))
 
 returns-7 : tie.Need-returns-7
 returns-7 c =
-    let allowed = c .before .before in
-    let start = allowed .before .before .before .before .before .before .before in
-    let args = start .args in
-    let some : 1 ≤ args .limit = omega (arith, allowed .before .before .before .if3 .left) in
-    let most : args .limit ≤ 2000 = omega (arith, allowed .before .before .if4 .left) in
-    let in-range = allowed-is (args .second) (args .threshold) (start .fits .threshold) (allowed .before .threshold-allowed .ensures) ∙ not-false _ (allowed .if5 .left) in
-    let good : 1890 ≤ firstAbove (args .soft .now) 7 = omega (arith, c .before .first-above .ensures, c .if6 .left) in
-    simp (eq-eqb _ _ (allowed .before .before .before .before .before .if1 .left), not-false (args .room) (allowed .before .before .before .before .if2 .left), le-leb _ _ some, le-leb _ _ most, in-range, le-leb _ _ good)
+    let good : 1890 ≤ c .before .first-above .result = omega (arith, c .if6 .left) in
+    up-to-the-values (c .before) true (le-leb _ _ (subst (λ (n : ℕ). 1890 ≤ n) (c .before .first-above .ensures) good))
 
 pub page-questions-spec : {M : Type 1} → statement M
 page-questions-spec =
