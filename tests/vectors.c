@@ -543,6 +543,18 @@ static tally check_dumps(const char *folder) {
     return t;
 }
 
+/* The next number of a row of draws, 0..255. */
+static uint8_t drawn(uint64_t *state) { return (uint8_t)((*state = *state * 6364136223846793005u + 1442695040888963407u) >> 56); }
+
+/* Drawn data and their written page. */
+static void write_page(uint64_t *state, uint8_t *data, uint8_t *page) {
+    for (int i = 0; i < DATA; i++) data[i] = drawn(state);
+    entry_encode_page(data, DATA, page, WRITTEN);
+}
+
+/* The bit of a written page that soft value k is a reading of. */
+static int written_bit(const uint8_t *page, int k) { return page[k / 30 * 4 + k % 30 / 8] >> (7 - k % 30 % 8) & 1; }
+
 /* Random data come back from a written page read with surest values, by both decoders, through a dump; with list of two unsearched, also from weak values that read as the written bits; and no dump
    with one byte changed is accepted. */
 static tally check_trips(void) {
@@ -551,12 +563,8 @@ static tally check_trips(void) {
     const paged clean = {.steps = 7560, .low = 2};
     uint64_t state = 20261115;
     for (int trip = 0; trip < 40; trip++) {
-        for (int i = 0; i < DATA; i++) {
-            state = state * 6364136223846793005u + 1442695040888963407u;
-            data[i] = (uint8_t)(state >> 56);
-        }
-        entry_encode_page(data, DATA, page, WRITTEN);
-        for (int k = 0; k < SOFT; k++) soft[k] = page[k / 30 * 4 + k % 30 / 8] >> (7 - k % 30 % 8) & 1 ? 7 : 0;
+        write_page(&state, data, page);
+        for (int k = 0; k < SOFT; k++) soft[k] = written_bit(page, k) ? 7 : 0;
         filled w = entry_write_dump(soft, SOFT, dump, DUMP), r = entry_read_dump(dump, DUMP, again, SOFT);
         paged s = entry_decode_page(again, SOFT, 500, back, DATA);
         int same = !w.number && !r.number && same_report(&s, &clean) && !memcmp(soft, again, SOFT) && !memcmp(data, back, DATA);
@@ -568,10 +576,7 @@ static tally check_trips(void) {
         const int64_t threshold = trip % 4 < 2 ? -2000 : 2000;
         paged unsearched = {.low = 2};
         for (int weak = 0; weak < 2; weak++) {
-            for (int k = 0; weak && k < SOFT; k++) {
-                state = state * 6364136223846793005u + 1442695040888963407u;
-                soft[k] ^= (uint8_t)(state >> 62);
-            }
+            for (int k = 0; weak && k < SOFT; k++) soft[k] ^= drawn(&state) >> 6;
             for (int j = 0; j < ROW; j++) {
                 const int low = walk_of(soft + BITS * j, 0, hard_reading(soft + BITS * j)).low;
                 if (low < unsearched.low) unsearched.low = (int16_t)low;
@@ -612,9 +617,8 @@ static tally check_commits(void) {
     tally t = {0, 0, 0};
     uint64_t state = 20261116;
     for (int k = 0; k < 2; k++, t.checked++) {
-        for (int i = 0; i < DATA; i++) data[k][i] = (uint8_t)((state = state * 6364136223846793005u + 1442695040888963407u) >> 56);
-        entry_encode_page(data[k], DATA, page, WRITTEN);
-        for (int j = 0; j < SOFT; j++) soft[j] = page[j / 30 * 4 + j % 30 / 8] >> (7 - j % 30 % 8) & 1 ? 7 : 0;
+        write_page(&state, data[k], page);
+        for (int j = 0; j < SOFT; j++) soft[j] = written_bit(page, j) ? 7 : 0;
         t.differ += entry_ask_page(soft, SOFT, 200, symbols[k], SYMBOLS).number != 0;
     }
     /* lengths: the input's before the output's, and both before the limit and the values, or the symbols and the rows, which are bad here */
@@ -733,6 +737,81 @@ static tally check_ties(void) {
     return t;
 }
 
+/* A page of right readings, by single searches of its columns: at each level those of the columns with the lower levels' written words taken off. Each finds the written word or is spent, and an
+   answer takes up to 30, 12, 6, 4 spent ones. `page` is what was written, `soft` what is read of it. */
+static int clean_report(way w, const uint8_t *page, const uint8_t *soft, uint64_t limit, paged *report) {
+    static const int roots[] = {30, 12, 6, 4};
+    uint8_t column[ROW][BITS];
+    uint64_t word[ROW];
+    const paged answer = {.low = INT16_MAX};
+    *report = answer;
+    memcpy(column, soft, SOFT);
+    for (int j = 0; j < ROW; j++) word[j] = ((uint64_t)page[4 * j] << 24 | (uint64_t)page[4 * j + 1] << 16 | (uint64_t)page[4 * j + 2] << 8 | page[4 * j + 3]) >> 2;
+    for (uint64_t i = 0; i < 4; i++) {
+        for (int j = 0; j < ROW; j++) {
+            const found f = searched(w, column[j], BITS, i, limit);
+            const told reimaged = entry_reimage(i, word[j]), of_level = entry_level_word(i, reimaged.value);
+            if ((f.number && f.number != 9) || (!f.number && f.word != word[j]) || reimaged.number) return 0;
+            report->steps += f.number ? limit : f.count;
+            report->erased_marks[i] |= (uint64_t)(f.number == 9) << j;
+            if (!f.number && f.low < report->low) report->low = f.low;
+            for (int k = 0; k < BITS; k++) if (of_level.value >> (BITS - 1 - k) & 1) column[j][k] = (uint8_t)(7 - column[j][k]);
+            word[j] ^= of_level.value;
+        }
+        report->erased[i] = (uint8_t)__builtin_popcountll(report->erased_marks[i]);
+        if (report->erased[i] > roots[i]) {
+            const paged refusal = {.number = 10, .place = i};
+            *report = refusal;
+            return 1;
+        }
+    }
+    return 1;
+}
+
+/* How weak the right readings of a page are: as sure as can be; of any sureness; of the last but one; of the least; of the least in three columns, else sure. */
+enum { SURENESSES = 5 };
+static int doubt_of(int kind, int column, uint8_t draw) {
+    const int doubts[SURENESSES] = {0, draw % 4, 2, 3, column % 21 ? 0 : 3};
+    return doubts[kind];
+}
+
+/* Point 12 of document 02, right but weak readings: the data comes back with no column changed, or the page is refused and nothing is written. With list of two it comes back in 0 steps with none erased,
+   at every limit. Without it that is so only where no column is spent: pages with erased columns and refused ones are met as well. */
+static tally check_clean(void) {
+    static const char *const modes[] = {"super", "whole"};
+    static const uint64_t limits[] = {1, 29, 30, 60, 200, 500, 2000};
+    static const int64_t thresholds[] = {-2000, 0, 2000};
+    uint8_t data[DATA], page[WRITTEN], soft[SOFT], out[DATA], symbols[SYMBOLS], committed[DATA];
+    unsigned long unharmed = 0, with_erased = 0, refused = 0;
+    tally t = {0, 0, 0};
+    uint64_t state = 20261117;
+    for (int n = 0; n < 2 * SURENESSES; n++) {
+        write_page(&state, data, page);
+        for (int k = 0; k < SOFT; k++) {
+            const int doubt = doubt_of(n % SURENESSES, k / BITS, drawn(&state));
+            soft[k] = (uint8_t)(written_bit(page, k) ? 7 - doubt : doubt);
+        }
+        for (size_t l = 0; l < sizeof limits / sizeof limits[0]; l++)
+            for (int k = 0; k < 2; k++)
+                for (int c = -1; c < 3; c++, t.checked++) {
+                    const way w = c < 0 ? without_list(modes[k]) : with_list(modes[k], thresholds[c]);
+                    paged expected;
+                    memset(out, UNTOUCHED, DATA);
+                    memset(symbols, UNTOUCHED, SYMBOLS);
+                    const int right = clean_report(w, page, soft, limits[l], &expected);
+                    const paged p = decoded(w, soft, SOFT, limits[l], out, DATA), a = asked(w, soft, SOFT, limits[l], symbols, SYMBOLS);
+                    const int same = right && same_report(&p, &expected) && same_report(&a, &expected);
+                    const int back = !p.number && !memcmp(out, data, DATA) && !entry_commit_page(symbols, SYMBOLS, committed, DATA).number && !memcmp(committed, data, DATA);
+                    const int some_erased = p.erased[0] || p.erased[1] || p.erased[2] || p.erased[3];
+                    t.differ += !(same && (back || (p.number == 10 && untouched(out, DATA) && untouched(symbols, SYMBOLS))) && (c < 0 || (back && !p.steps && !some_erased)));
+                    if (c < 0) *(p.number ? &refused : some_erased ? &with_erased : &unharmed) += 1;
+                }
+    }
+    t.differ += !unharmed + !with_erased + !refused;
+    printf("right but weak readings: %lu checked, %lu differ; without list of two %lu came back unharmed, %lu with erased columns, %lu were refused\n", t.checked, t.differ, unharmed, with_erased, refused);
+    return t;
+}
+
 static part looked_up(const uint8_t *page, size_t count, size_t column) {
     part p = {page, 0};
     entry_column_of(page, count, column, &p);
@@ -760,7 +839,7 @@ static tally check_look_ups(void) {
 
 int main(int argc, char **argv) {
     const char *folder = argc > 1 ? argv[1] : "tests/vectors";
-    tally parts[TEXTS + 6];
+    tally parts[TEXTS + 7];
     for (int i = 0; i < TEXTS; i++) parts[i] = check_file(folder, texts[i].name, texts[i].line_of);
     count_left(folder, "");
     count_left(folder, "long/");
@@ -770,13 +849,14 @@ int main(int argc, char **argv) {
     parts[TEXTS + 3] = check_look_ups();
     parts[TEXTS + 4] = check_lists();
     parts[TEXTS + 5] = check_ties();
+    parts[TEXTS + 6] = check_clean();
     unsigned long checked = 0, differ = 0;
     if (pages_compared) {
         printf("pages and limits outside the premise where the two decoders differ: %lu\n", pages_apart);
         printf("pages and thresholds with list of two inside the premise where second words were sought: %lu\n", seconds_compared);
         differ += !pages_apart + !seconds_compared;
     }
-    for (int i = 0; i < TEXTS + 6; i++) {
+    for (int i = 0; i < TEXTS + 7; i++) {
         checked += parts[i].checked;
         differ += parts[i].differ;
     }

@@ -28,7 +28,7 @@ stopped-is-not-going l cs ls n e = let z : _≡_ {A = ℕ} 0 1 = cc in absurd (o
 refused-is-not-answered : {X : Type 0} (l : ℕ) (ls : List Level) (n : ℕ) → refused l ≡ answered ls n → X
 refused-is-not-answered l ls n e = let z : _≡_ {A = ℕ} 0 1 = cc in absurd (omega arith)
 
-going-inj : (cs ds : List (List ℕ)) (ls ks : List Level) (m n : ℕ) → going cs ls m ≡ going ds ks n → (cs ≡ ds) × (ls ≡ ks)
+pub going-inj : (cs ds : List (List ℕ)) (ls ks : List Level) (m n : ℕ) → going cs ls m ≡ going ds ks n → (cs ≡ ds) × (ls ≡ ks)
 going-inj cs ds ls ks m n e = (cc, cc)
 
 answered-inj : (ls ks : List Level) (m n : ℕ) → answered ls m ≡ answered ks n → ls ≡ ks

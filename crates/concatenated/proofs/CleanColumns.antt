@@ -1,4 +1,4 @@
--- A column that reads as a codeword: this codeword is ahead of all others, so both searches find it, at any sureness. Assumes nothing.
+-- A column that reads as a codeword: this codeword is ahead of all others, so both searches find it, at any sureness; list of two takes it unsearched. Assumes nothing.
 use mathlib.Core.Bool.{Bool, true, false, cond}
 use mathlib.Core.List.{List, [], _∷_}
 use mathlib.Core.Logic.{_⊎_, inl, inr, ⊎-elim}
@@ -7,30 +7,31 @@ use Prim.Native.Nat.{ℕ, zero, suc, _-_, _≤_, _<_}
 use native.Mathlib.Decide.{decLe}
 use native.Mathlib.Omega.{arith}
 use lib.Dec.{eqb, ltb}
-use lib.IntN.{pos, _+ℤ_}
+use lib.IntN.{ℤ, pos, _+ℤ_}
 use lib.ListN.{length, getD}
 use lib.Signed.{ltZ}
 use borrow.Author.Tests.{eq-eqb, ne-eqb}
-use Rattle.column.specs.Shape.{Shape, Word, levels, levelCode}
+use Rattle.column.specs.Shape.{Shape, levels}
 use Rattle.paths.specs.Paths.{Path}
 use Rattle.paths.specs.Order.{Ahead}
 use Rattle.paths.proofs.Prefixes.{Prefix, prefix-some, prefix-length, prefix-whole, prefix-shorter}
 use Rattle.paths.proofs.Ahead.{last-apart, is-ahead, last-apart-in, last-apart-last}
 use Rattle.trellis.specs.Values.{Values, reading, doubt, branch}
-use Rattle.trellis.specs.Order.{bit, number, sum, zeroFirst, firstBy, before}
+use Rattle.trellis.specs.Order.{bit, sum, zeroFirst, firstBy, before}
 use Rattle.trellis.specs.Trellis.{WordFound}
 use Rattle.trellis.specs.Demand.{Search as Kind, Codeword, AheadOfAll}
-use Rattle.trellis.specs.TwoWords.{off, hardPath}
+use Rattle.trellis.specs.TwoWords.{Choice, off, on, hardPath}
 use Rattle.trellis.proofs.Values.{doubt-lt}
 use Rattle.trellis.proofs.Order.{order}
 use Rattle.trellis.proofs.Demand.{Searchable}
 use Rattle.trellis.proofs.HardPath.{readBit, read-bit-is-reading, hard-path-length}
-use Rattle.concatenated.specs.SoftPage.{hardReading}
 use Rattle.concatenated.specs.Readers.{readerOf}
-use Rattle.concatenated.specs.Clean.{AgreeingIsAbove, FindsTheReading}
-use Rattle.concatenated.proofs.HardReading.{hard-path-number}
+use Rattle.concatenated.specs.Clean.{AgreeingIsAbove, FindsTheReading, TakesTheReading}
+use Rattle.concatenated.proofs.HardReading.{reading-is-a-codeword}
 use Rattle.concatenated.proofs.Integers.{same-before, sum-smaller}
 use Rattle.concatenated.proofs.Searches.{found-is-ahead-of-all}
+use Rattle.concatenated.proofs.TwoWords.{hard-reading-is-found}
+use Rattle.concatenated.proofs.CleanPages.{taking-is-finding}
 
 module _ (vs : Values) (above : AgreeingIsAbove vs) (c : List ℕ) where
   -- ---- sums of paths
@@ -129,12 +130,21 @@ module _ (vs : Values) (above : AgreeingIsAbove vs) (c : List ℕ) where
   hard-path-reads zero = tt
   hard-path-reads (suc k) = (ap (λ (t : ℕ). readBit (getD c t 0)) (sym (hard-path-length c k)), hard-path-reads k)
 
-  pub reading-has-a-path : (w : Path) × (length w ≡ length c) × (number w ≡ hardReading c) × Reads w
-  reading-has-a-path = (hardPath c (length c), hard-path-length c (length c), hard-path-number c, hard-path-reads (length c))
+module _ (S : Shape) (searchable : (i : ℕ) → i < levels S → Searchable S i) (vs : ℕ → Values) (limit : ℕ) (kind : Kind) where
+  -- both searches find the reading of a column that reads as a codeword, if they are not spent
+  searches-find-the-reading : ((i : ℕ) → AgreeingIsAbove (vs i)) → FindsTheReading S (readerOf off kind S vs limit)
+  searches-find-the-reading above i h c x n long soft word e =
+      let code = reading-is-a-codeword S i c long word in
+      let hard : Path = hardPath c (S .bits) in
+      let best = codeword-read-is-ahead-of-all (vs i) (above i) c S i hard (searchable i h .some-bits) (code .1) (hard-path-reads (vs i) (above i) c (S .bits)) in
+      ap (λ (y : WordFound). y .column) (found-is-ahead-of-all S i (searchable i h) vs limit c kind hard best x n e .0) ∙ code .0
 
--- both searches find the reading of a column that reads as a codeword, if they are not spent
-pub searches-find-the-reading : (S : Shape) → ((i : ℕ) → i < levels S → Searchable S i) → (vs : ℕ → Values) → ((i : ℕ) → AgreeingIsAbove (vs i)) → (limit : ℕ) (kind : Kind) → FindsTheReading S (readerOf off kind S vs limit)
-searches-find-the-reading S searchable vs above limit kind i h c x n long soft word e =
-    let r = reading-has-a-path (vs i) (above i) c in
-    let code : Codeword S i (r .0) = record { long = r .1 ∙ long; word = subst⁻¹ (Word (S .bits) (levelCode S i)) (r .2) word } in
-    ap (λ (y : WordFound). y .column) (found-is-ahead-of-all S i (searchable i h) vs limit c kind (r .0) (codeword-read-is-ahead-of-all (vs i) (above i) c S i (r .0) (searchable i h .some-bits) code (r .3)) x n e .0) ∙ r .2
+  module _ (some-symbol : 0 < S .symbol) where
+    -- with list of two it is taken as it reads
+    pub lists-take-the-reading : (threshold : ℤ) → TakesTheReading S (readerOf (on threshold) kind S vs limit)
+    lists-take-the-reading threshold i h c long word =
+        let r = hard-reading-is-found S i (searchable i h) some-symbol vs limit c threshold kind long word in (_, r .1, r .0)
+
+    pub readers-find-the-reading : (choice : Choice) → ((i : ℕ) → AgreeingIsAbove (vs i)) → FindsTheReading S (readerOf choice kind S vs limit)
+    readers-find-the-reading off above = searches-find-the-reading above
+    readers-find-the-reading (on threshold) above = taking-is-finding S _ (lists-take-the-reading threshold)

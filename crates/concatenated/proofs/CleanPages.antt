@@ -1,7 +1,8 @@
--- Point 12: a page whose soft values read as the written bits comes back with no column changed, where no column is spent. Assumes nothing.
+-- 02, point 12: a page whose columns read as they were written comes back with no column changed and, where none is spent, none erased; else it is refused for its unread columns alone. Assumes nothing.
 use mathlib.Core.Bool.{false, not}
 use mathlib.Core.List.{List, [], _∷_, map}
-use mathlib.Core.Path.{_≡_, refl, ap, _∙_, subst, subst⁻¹}
+use mathlib.Core.Logic.{_⊎_, inl, inr, ⊎-elim}
+use mathlib.Core.Path.{_≡_, refl, sym, ap, _∙_, subst, subst⁻¹}
 use Prim.Native.Nat.{ℕ, zero, suc, _+_, _-_, _*_, _^_, _≤_, _<_}
 use native.Mathlib.Nat
 use native.Mathlib.Omega.{arith}
@@ -13,26 +14,41 @@ use Rattle.poly.proofs.Sum.{add-comm, add-again}
 use Rattle.column.specs.Shape.{Shape, Sound, Word, levels, degree, levelCode}
 use Rattle.column.specs.Level.{levelWord, highest}
 use Rattle.column.proofs.Levels.{sum-is-word}
-use Rattle.concatenated.specs.Lists.{All, total, listed}
+use Rattle.trellis.specs.Trellis.{WordFound}
+use Rattle.concatenated.specs.Lists.{All, sum, total, listed}
 use Rattle.concatenated.specs.Format.{Format, SoundFormat, dataLength}
 use Rattle.concatenated.specs.Outer.{RowDecoder, RowEncoder, OuterLaws}
 use Rattle.concatenated.specs.SoftPage.{Soft, hardReading, columnOff}
-use Rattle.concatenated.specs.Decode.{Reading, found, spent, Reader, mark, marks, rowOff, changed, Level, level, answered, decoded, rows}
+use Rattle.concatenated.specs.Decode.{Reading, found, spent, Reader, mark, marks, count, steps, rowOff, changed, Level, level, going, answered, run, Reaches, AtEveryLevel, outcome, decoded, rows}
 use Rattle.concatenated.specs.Written.{writtenRows, columnSymbols, columnsOf, rowAt, writtenSum, bytesOfRows}
 use Rattle.concatenated.specs.Misread.{otherThan, othersThan, misread}
-use Rattle.concatenated.specs.Readers.{NoColumnSpent}
-use Rattle.concatenated.specs.Clean.{ReadsAs, FindsTheReading}
+use Rattle.concatenated.specs.Readers.{AllRead}
+use Rattle.concatenated.specs.Clean.{BackUnchanged, BackUnharmed, TooManyUnread, ReadsAs, FindsTheReading, TakesTheReading}
 use Rattle.concatenated.proofs.Lists.{all-map, all-listed}
 use Rattle.concatenated.proofs.Digits.{Below}
 use Rattle.concatenated.proofs.TakingOff.{off-length, column-stays-soft, taking-off-adds-to-the-reading}
 use Rattle.concatenated.proofs.Columns.{row-off-all, cleared, altered-columns-are-misread}
 use Rattle.concatenated.proofs.Encoding.{columns-of-length, written-row-is-a-codeword, row-of-written-columns, rows-of-written-columns, written-symbols-in-range, written-sums-reimage, written-rows-hold-the-data}
-use Rattle.concatenated.proofs.RowsBack.{TrueWithinReach, writtenLevel, answer-is-written, rows-are-written, readings}
+use Rattle.concatenated.proofs.RowsBack.{readings, writtenLevel, writtenSteps, rows-are-written, TrueWithinReach, comes-to, comes-to-or-stops}
+use Rattle.concatenated.proofs.Answers.{going-inj}
+use Rattle.concatenated.proofs.Searches.{found-inj}
 
 none-marked : (read : List ℕ → Reading) (cs : List (List ℕ)) → All (λ c. mark (read c) ≡ false) cs → total (marks (map read cs)) ≡ 0
 unfolding total
 none-marked read [] h = refl
 none-marked read (c ∷ cs) h = rw (h .0) (omega (arith, none-marked read cs (h .1)))
+
+-- columns that are each found without a step take none together
+no-steps : (read : List ℕ → Reading) (cs : List (List ℕ)) → All (λ c. (w : WordFound) × (read c ≡ found w 0)) cs → steps (map read cs) ≡ 0
+unfolding sum count
+no-steps read [] h = refl
+no-steps read (c ∷ cs) h = rw (h .0 .1) (omega (arith, no-steps read cs (h .1)))
+
+-- who takes a column as it reads finds its reading
+pub taking-is-finding : (S : Shape) (read : Reader) → TakesTheReading S read → FindsTheReading S read
+taking-is-finding S read takes i h c w n long soft word e =
+    let t = takes i h c long word in
+    ap (λ (x : WordFound). x .column) (found-inj w (t .0) n 0 (sym e ∙ t .2) .0) ∙ t .1
 
 module _ (S : Shape) (ok : Sound S) where
   -- the symbols of a written column are in range
@@ -81,6 +97,17 @@ module _ (S : Shape) (ok : Sound S) where
   unfolding writtenSum
   sum-of-level-words i s h range = sum-is-word S ok (λ k. getD s k 0) i range h
 
+  -- a column that reads as a word of level i
+  abbrev pub ReadsAsAWord : ℕ → List ℕ → Type 0
+  ReadsAsAWord i c = (length c ≡ S .bits) × Word (S .bits) (levelCode S i) (hardReading c)
+
+  columns-read-as-words : (i : ℕ) → i < levels S → (cs ws : List (List ℕ)) → All SoftColumn cs → All InRange ws → ReadsAs S i cs ws → All (ReadsAsAWord i) cs
+  columns-read-as-words i h [] [] soft range e = tt
+  columns-read-as-words i h [] (s ∷ ws) soft range e = absurd e
+  columns-read-as-words i h (c ∷ cs) [] soft range e = absurd e
+  columns-read-as-words i h (c ∷ cs) (s ∷ ws) soft range e =
+      ((soft .0 .0, subst⁻¹ (Word (S .bits) (levelCode S i)) (e .0) (sum-of-level-words i s h (range .0))), columns-read-as-words i h cs ws (soft .1) (range .1) (e .1))
+
   none-misread : (read : Reader) → FindsTheReading S read → (i : ℕ) → i < levels S → (cs vs : List (List ℕ)) → All SoftColumn cs → All InRange vs → ReadsAs S i cs vs
       → total (misread S i vs (map (read i) cs)) ≡ 0
   unfolding total othersThan otherThan
@@ -108,16 +135,20 @@ module _ (S : Shape) (ok : Sound S) where
     cleared-reads zero h = clean
     cleared-reads (suc i) h = let k : i < levels S = omega arith in reads-on i k (cleared S ws page i) ws (cleared-soft i) range (cleared-reads i (omega arith))
 
--- ---- the written page
+-- ---- the written page, each column of which reads as it was written
 
-module _ (P : Format) (ok : SoundFormat P) (outer : RowDecoder) (encoded : RowEncoder) (Codeword : ℕ → List ℕ → Type 0) (laws : OuterLaws P outer encoded Codeword) (read : Reader) (finds : FindsTheReading (P .shape) read)
-    (bytes : List ℕ) (page : List (List ℕ)) (wide : length page ≡ P .columns) (soft : All (SoftColumn (P .shape) (ok .shape-sound)) page)
-    (clean : ReadsAs (P .shape) 0 page (columnsOf (P .columns) (writtenRows P encoded bytes))) (all-read : NoColumnSpent (P .shape) outer read page) where
+module _ (P : Format) (ok : SoundFormat P) (outer : RowDecoder) (encoded : RowEncoder) (Codeword : ℕ → List ℕ → Type 0) (laws : OuterLaws P outer encoded Codeword) (bytes : List ℕ) (full : length bytes ≡ dataLength P) (are-bytes : Below 256 bytes)
+    (page : List (List ℕ)) (wide : length page ≡ P .columns) (soft : All (SoftColumn (P .shape) (ok .shape-sound)) page)
+    (clean : ReadsAs (P .shape) 0 page (columnsOf (P .columns) (writtenRows P encoded bytes))) where
   abbrev T : Shape
   T = P .shape
 
   abbrev ws : List (List ℕ)
   ws = columnsOf (P .columns) (writtenRows P encoded bytes)
+
+  -- the columns as the decoder comes to level i
+  abbrev at : ℕ → List (List ℕ)
+  at i = cleared T ws page i
 
   in-range : All (InRange T (ok .shape-sound)) ws
   unfolding columnsOf
@@ -126,29 +157,95 @@ module _ (P : Format) (ok : SoundFormat P) (outer : RowDecoder) (encoded : RowEn
   codewords : (i : ℕ) → i < levels T → Codeword i (rowAt i ws)
   codewords i h = subst⁻¹ (Codeword i) (row-of-written-columns P ok outer encoded Codeword laws bytes i h) (written-row-is-a-codeword P ok outer encoded Codeword laws bytes i h)
 
-  nothing-misread : (i : ℕ) → i < levels T → total (misread T i ws (readings T read ws page i)) ≡ 0
-  nothing-misread i h =
-      none-misread T (ok .shape-sound) read finds i h (cleared T ws page i) ws (cleared-soft T (ok .shape-sound) ws page soft in-range clean i) in-range
-      (cleared-reads T (ok .shape-sound) ws page soft in-range clean i (omega arith))
+  soft-at : (i : ℕ) → All (SoftColumn T (ok .shape-sound)) (at i)
+  soft-at = cleared-soft T (ok .shape-sound) ws page soft in-range clean
 
-  within : TrueWithinReach P outer encoded Codeword laws read ws page (columns-of-length (P .columns) (writtenRows P encoded bytes)) wide codewords (written-sums-reimage P ok outer encoded Codeword laws bytes)
-  within i h at = omega (arith, nothing-misread i h, none-marked (read i) (cleared T ws page i) (all-read i h (cleared T ws page i) at))
+  reads-at : (i : ℕ) → i < levels T → ReadsAs T i (at i) ws
+  reads-at i h = cleared-reads T (ok .shape-sound) ws page soft in-range clean i (omega arith)
 
-  nothing-changed : All (λ l. total (l .changed) ≡ 0) (listed (writtenLevel T read ws page) (levels T))
-  unfolding writtenLevel level
-  nothing-changed =
-      all-listed (λ (l : Level). total (l .changed) ≡ 0) (writtenLevel T read ws page) (levels T)
-      (λ i h. omega (arith, nothing-misread i h, altered-columns-are-misread T i (readings T read ws page i) ws (all-map ws (λ s f. f i h) (written-sums-reimage P ok outer encoded Codeword laws bytes))))
+  -- each reads as a word of the level
+  words-at : (i : ℕ) → i < levels T → All (ReadsAsAWord T (ok .shape-sound) i) (at i)
+  words-at i h = columns-read-as-words T (ok .shape-sound) i h (at i) ws (soft-at i) in-range (reads-at i h)
 
-  -- the data comes back with no column changed
-  pub clean-page-comes-back : length bytes ≡ dataLength P → Below 256 bytes
-      → (ls : List Level) × (n : ℕ) × (decoded T outer read page ≡ answered ls n) × (rows ls ≡ writtenRows P encoded bytes) × (bytesOfRows P (rows ls) ≡ bytes) × All (λ l. total (l .changed) ≡ 0) ls
-  clean-page-comes-back full are-bytes =
-      let same = rows-are-written T read ws page (levels T) ∙ rows-of-written-columns P ok outer encoded Codeword laws bytes in (
-        _,
-        _,
-        answer-is-written P outer encoded Codeword laws read ws page (columns-of-length (P .columns) (writtenRows P encoded bytes)) wide codewords (written-sums-reimage P ok outer encoded Codeword laws bytes) within,
-        same,
-        ap (bytesOfRows P) same ∙ written-rows-hold-the-data P ok outer encoded Codeword laws bytes full are-bytes,
-        nothing-changed,
-      )
+  -- ---- any reader that finds such a word, if it finds one
+
+  module _ (read : Reader) (finds : FindsTheReading T read) where
+    nothing-misread : (i : ℕ) → i < levels T → total (misread T i ws (readings T read ws page i)) ≡ 0
+    nothing-misread i h = none-misread T (ok .shape-sound) read finds i h (at i) ws (soft-at i) in-range (reads-at i h)
+
+    nothing-changed : All (λ l. total (l .changed) ≡ 0) (listed (writtenLevel T read ws page) (levels T))
+    unfolding writtenLevel level
+    nothing-changed =
+        all-listed (λ (l : Level). total (l .changed) ≡ 0) (writtenLevel T read ws page) (levels T)
+        (λ i h. omega (arith, nothing-misread i h, altered-columns-are-misread T i (readings T read ws page i) ws (all-map ws (λ s f. f i h) (written-sums-reimage P ok outer encoded Codeword laws bytes))))
+
+    unchanged : decoded T outer read page ≡ answered (listed (writtenLevel T read ws page) (levels T)) (writtenSteps T read ws page (levels T)) → BackUnchanged P encoded bytes (decoded T outer read page)
+    unchanged e =
+        let same = rows-are-written T read ws page (levels T) ∙ rows-of-written-columns P ok outer encoded Codeword laws bytes in
+        record {
+          levels = _;
+          steps = _;
+          answered-so = e;
+          rows-are-written = same;
+          data-are = ap (bytesOfRows P) same ∙ written-rows-hold-the-data P ok outer encoded Codeword laws bytes full are-bytes;
+          none-changed = nothing-changed;
+        }
+
+    -- right readings never mislead: the data comes back with no column changed, or the page is refused, and then for its unread columns alone
+    pub clean-page-comes-back-or-is-refused : BackUnchanged P encoded bytes (decoded T outer read page) ⊎ TooManyUnread P outer read page (decoded T outer read page)
+    unfolding decoded outcome
+    clean-page-comes-back-or-is-refused =
+        ⊎-elim (λ e. inl (unchanged (ap outcome e)))
+        (λ stop.
+        let s = stop .1 in
+        inr (record { level = stop .0; is-a-level = s .level-exists; refused-there = ap outcome (s .stops); columns = at (stop .0); reached = (_, _, s .comes-there); too-many = omega (arith, s .too-many) }))
+        (comes-to-or-stops P outer encoded Codeword laws read ws page (columns-of-length (P .columns) (writtenRows P encoded bytes)) wide codewords (written-sums-reimage P ok outer encoded Codeword laws bytes)
+        (λ i h few. omega (arith, nothing-misread i h, few)) (levels T) (omega arith))
+
+    -- ---- where no column is spent
+
+    module _ (all-read : (i : ℕ) → i < levels T → Reaches T outer read page i (at i) → AllRead read i (at i)) where
+      within : TrueWithinReach P outer encoded Codeword laws read ws page (columns-of-length (P .columns) (writtenRows P encoded bytes)) wide codewords (written-sums-reimage P ok outer encoded Codeword laws bytes)
+      within i h there = omega (arith, nothing-misread i h, none-marked (read i) (at i) (all-read i h there))
+
+      comes : (i : ℕ) → i ≤ levels T → run T outer read page i ≡ going (at i) (listed (writtenLevel T read ws page) i) (writtenSteps T read ws page i)
+      comes = comes-to P outer encoded Codeword laws read ws page (columns-of-length (P .columns) (writtenRows P encoded bytes)) wide codewords (written-sums-reimage P ok outer encoded Codeword laws bytes) within
+
+      pub clean-page-comes-back : BackUnharmed P encoded bytes (decoded T outer read page)
+      unfolding decoded outcome writtenLevel level unchanged
+      clean-page-comes-back = record {
+        unchanged = unchanged (ap outcome (comes (levels T) (omega arith)));
+        none-erased =
+            all-listed (λ (l : Level). total (l .erased) ≡ 0) (writtenLevel T read ws page) (levels T) (λ i h. none-marked (read i) (at i) (all-read i h (_, _, comes i (omega arith))));
+      }
+
+      -- the steps are those of reading these columns
+      pub clean-page-steps : clean-page-comes-back .unchanged .steps ≡ writtenSteps T read ws page (levels T)
+      unfolding clean-page-comes-back unchanged
+      clean-page-steps = refl
+
+      -- at every level that the decoder comes to, each column reads as a word of the level
+      pub every-column-reads-as-a-word : AtEveryLevel T outer read page (λ i cs. All (ReadsAsAWord T (ok .shape-sound) i) cs)
+      every-column-reads-as-a-word i h cs there =
+          subst (All (ReadsAsAWord T (ok .shape-sound) i)) (going-inj (at i) cs _ (there .0) _ (there .1) (sym (comes i (omega arith)) ∙ there .2) .0) (words-at i h)
+
+  -- ---- a reader that takes such a column as it reads: nothing is spent, and no step is taken
+
+  module _ (read : Reader) (takes : TakesTheReading T read) where
+    read-at : (i : ℕ) → i < levels T → AllRead read i (at i)
+    unfolding mark
+    read-at i h = all-map (at i) (λ c word. ap mark (takes i h c (word .0) (word .1) .2)) (words-at i h)
+
+    no-steps-at : (i : ℕ) → i < levels T → steps (readings T read ws page i) ≡ 0
+    no-steps-at i h = no-steps (read i) (at i) (all-map (at i) (λ c word. let t = takes i h c (word .0) (word .1) in (t .0, t .2)) (words-at i h))
+
+    no-steps-below : (i : ℕ) → i ≤ levels T → writtenSteps T read ws page i ≡ 0
+    unfolding writtenSteps
+    no-steps-below zero h = refl
+    no-steps-below (suc i) h = omega (arith, no-steps-below i (omega arith), no-steps-at i (omega arith))
+
+    pub taken-page-comes-back : (back : BackUnharmed P encoded bytes (decoded T outer read page)) × (back .unchanged .steps ≡ 0) × AtEveryLevel T outer read page (λ i cs. All (ReadsAsAWord T (ok .shape-sound) i) cs)
+    taken-page-comes-back =
+        let finds = taking-is-finding T read takes in
+        let all-read : (i : ℕ) → i < levels T → Reaches T outer read page i (at i) → AllRead read i (at i) = λ i h there. read-at i h in
+        (clean-page-comes-back read finds all-read, clean-page-steps read finds all-read ∙ no-steps-below (levels T) (omega arith), every-column-reads-as-a-word read finds all-read)

@@ -3,10 +3,11 @@ use mathlib.Core.Path.{_≡_, refl, sym, ap, ap₂, _∙_, subst, subst⁻¹}
 use mathlib.Core.List.{List, [], _∷_, _++_}
 use Prim.Native.Nat.{ℕ, zero, suc, _+_, _-_, _*_, _/_, _%_, _^_, _<_}
 use native.Mathlib.Nat
-use native.Mathlib.Nat.{not-suc-le-zero, le-of-suc-le-suc, mod-lt, mod-eq-of-lt, mul-add-div-right, mul-add-mod-self-right, pow-succ', mul-assoc, add-mul, suc-mul, one-le-pow}
+use native.Mathlib.Nat.{not-suc-le-zero, le-of-suc-le-suc, mod-lt, mod-eq-of-lt, mul-add-div-right, mul-add-mod-self-right, pow-suc, pow-succ', mul-assoc, add-mul, suc-mul, one-le-pow}
 use native.Mathlib.Omega.{arith}
 use lib.Arith.{digits-lt, digits-div, mod-mul}
 use lib.ListN.{length, length-append, length-drop, getD, take, drop, take-append-drop}
+use lib.Pow.{pow-add}
 use lib.Seq.{length-take-le, take-at, drop-at}
 use Rattle.reedsolomon.specs.Search.{WordOf}
 use Rattle.packing.specs.Packing.{joined, digit, symbolsOf, bytesOf}
@@ -74,6 +75,16 @@ joined-of-digits base (suc k) x h =
     joined-cons base (digit base k x) (digits base k x)
     ∙ ap₂ (λ (m y : ℕ). digit base k x * base ^ m + y) (digits-length base k x) (joined-of-digits base k x h)
     ∙ sym (ap (λ (t : ℕ). x % t) (pow-succ' base k) ∙ mod-mul x h (one-le-pow k base h))
+
+-- so bytes that hold a number give it back; a byte is eight bits
+pub number-comes-back : (k n : ℕ) → n < 256 ^ k → joined 256 0 (digits 256 k n) ≡ n
+number-comes-back k n small = joined-of-digits 256 k n (omega arith) ∙ mod-eq-of-lt small
+
+pub byte-weight : (m : ℕ) → 2 ^ (8 * m) ≡ 256 ^ m
+byte-weight zero = refl
+byte-weight (suc m) =
+    let more : 8 * suc m ≡ 8 * m + 8 = omega arith in
+    ap (λ (k : ℕ). 2 ^ k) more ∙ pow-add 2 (8 * m) 8 ∙ ap (λ (w : ℕ). w * 256) (byte-weight m) ∙ sym (pow-suc 256 m)
 
 -- what stands above the k lowest digits has no influence on them
 pub digits-of-high : (base k a r : ℕ) → 0 < base → digits base k (a * base ^ k + r) ≡ digits base k r

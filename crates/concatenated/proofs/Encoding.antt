@@ -1,10 +1,10 @@
 -- The written page: its rows are the codewords with the data in front, its columns the sums of their level words, and re-imaging gives the symbols back. Assumes nothing.
 use mathlib.Core.Path.{_≡_, refl, sym, ap, ap₂, _∙_, subst, subst⁻¹}
-use mathlib.Core.List.{List, [], map}
+use mathlib.Core.List.{List, [], map, flatMap}
 use Prim.Native.Nat.{ℕ, zero, suc, _-_, _*_, _^_, _≤_, _<_}
 use native.Mathlib.Nat
 use native.Mathlib.Omega.{arith}
-use lib.ListN.{length, length-map, getD, take, List·getD-map}
+use lib.ListN.{length, length-map, getD, take, drop, List·getD-map}
 use lib.Seq.{length-take-le, getD-take, ext-getD}
 use Rattle.poly.specs.Polynomial.{add}
 use Rattle.column.specs.Shape.{Shape, levels}
@@ -18,7 +18,7 @@ use Rattle.concatenated.specs.Outer.{RowDecoder, RowEncoder, OuterLaws}
 use Rattle.concatenated.specs.Written.{rowData, writtenRow, writtenRows, columnSymbols, columnsOf, rowAt, writtenSum, columnInBytes, pageInBytes, bytesOfRows}
 use Rattle.concatenated.proofs.Lists.{listed-length, listed-at, all-listed, all-of-each, map-listed, listed-same}
 use Rattle.concatenated.proofs.Digits.{Below, digits-length}
-use Rattle.concatenated.proofs.Groups.{flat-length}
+use Rattle.concatenated.proofs.Groups.{flat-length, flat-part}
 use Rattle.concatenated.proofs.RowData.{row-data-is-a-word, data-symbols-fill-the-rows, data-symbols-in-range, bytes-of-rows-with-data}
 
 -- ---- rows and columns of a list of rows
@@ -54,6 +54,17 @@ page-in-bytes-length P rs =
     let columns = map (columnOf (P .shape)) (columnsOf (P .columns) rs) in
     flat-length (columnInBytes P) (P .columnBytes) columns (all-of-each _ (λ x. digits-length 256 (P .columnBytes) (x * 2 ^ (8 * P .columnBytes - P .shape .bits))) columns)
     ∙ ap (λ (t : ℕ). t * P .columnBytes) (length-map (columnsOf (P .columns) rs) (columnOf (P .shape)) ∙ columns-of-length (P .columns) rs)
+
+-- the bytes of column j
+pub column-in-the-page : (P : Format) (rs : List (List ℕ)) (j : ℕ) → j < P .columns
+    → take (P .columnBytes) (drop (j * P .columnBytes) (pageInBytes P rs)) ≡ columnInBytes P (columnOf (P .shape) (columnSymbols rs j))
+unfolding pageInBytes columnsOf columnInBytes
+column-in-the-page P rs j h =
+    let words = listed (λ k. columnOf (P .shape) (columnSymbols rs k)) (P .columns) in
+    ap (λ (t : List ℕ). take (P .columnBytes) (drop (j * P .columnBytes) (flatMap (columnInBytes P) t))) (map-listed (columnOf (P .shape)) (columnSymbols rs) (P .columns))
+    ∙ flat-part (columnInBytes P) (P .columnBytes) words (all-of-each _ (λ x. digits-length 256 (P .columnBytes) (x * 2 ^ (8 * P .columnBytes - P .shape .bits))) words) j 0
+    (omega (arith, listed-length (λ k. columnOf (P .shape) (columnSymbols rs k)) (P .columns), h))
+    ∙ ap (columnInBytes P) (listed-at (λ k. columnOf (P .shape) (columnSymbols rs k)) (P .columns) j 0 h)
 
 -- ---- the rows and columns of written data
 

@@ -6,7 +6,7 @@ use native.Mathlib.Nat.{not-suc-le-zero, le-of-suc-le-suc, suc-mul, zero-mul}
 use native.Mathlib.Numerals.{add-one}
 use native.Mathlib.Omega.{arith}
 use lib.ListN.{length, length-append, getD, take, drop, set, List·getD-append}
-use lib.Seq.{drop-cons, drop-drop, getD-append-add}
+use lib.Seq.{take-at, drop-at, drop-cons, drop-drop, getD-append-add}
 use Rattle.packing.specs.Packing.{joined}
 use Rattle.concatenated.specs.Lists.{All}
 use Rattle.concatenated.specs.Data.{digits, repacked}
@@ -39,7 +39,7 @@ repacked-at p a q b (suc n) xs (suc g) k h l =
     ∙ repacked-at p a q b n (drop a xs) g k (le-of-suc-le-suc h) l
     ∙ ap (λ (t : List ℕ). getD (digits q b (joined p 0 (take a t))) k 0) (drop-drop (g * a) a xs ∙ ap (λ (t : ℕ). drop t xs) z)
 
--- the groups of a list's entries, one after the other: of one entry more; what holds of all; where each group has b, how many there are, and entry k of the group of entry g
+-- the groups of a list's entries, one after the other: of one entry more; what holds of all; where each group has b, how many there are, and the group of entry g
 pub flat-more : {A B : Type 0} (f : A → List B) (xs : List A) (x : A) → flatMap f (xs ++ (x ∷ [])) ≡ flatMap f xs ++ f x
 unfolding flatMap
 flat-more f [] x = append-nil (f x)
@@ -55,12 +55,14 @@ unfolding flatMap
 flat-length f b [] e = sym (zero-mul b)
 flat-length f b (x ∷ xs) e = length-append (f x) (flatMap f xs) ∙ omega (arith, e .0, flat-length f b xs (e .1), suc-mul (length xs) b)
 
-pub flat-at : {A : Type 0} (f : A → List ℕ) (b : ℕ) (xs : List A) → All (λ x. length (f x) ≡ b) xs → (g k : ℕ) (d : A) → g < length xs → k < b
-    → getD (flatMap f xs) (g * b + k) 0 ≡ getD (f (getD xs g d)) k 0
+pub flat-part : {A : Type 0} (f : A → List ℕ) (b : ℕ) (xs : List A) → All (λ x. length (f x) ≡ b) xs → (g : ℕ) (d : A) → g < length xs → take b (drop (g * b) (flatMap f xs)) ≡ f (getD xs g d)
 unfolding flatMap
-flat-at f b [] e g k d h l = absurd (not-suc-le-zero h)
-flat-at f b (x ∷ xs) e zero k d h l = sooner (f x) (flatMap f xs) b k 0 (e .0) l
-flat-at f b (x ∷ xs) e (suc g) k d h l = later (f x) (flatMap f xs) b g k 0 (e .0) ∙ flat-at f b xs (e .1) g k d (le-of-suc-le-suc h) l
+flat-part f b [] e g d h = absurd (not-suc-le-zero h)
+flat-part f b (x ∷ xs) e zero d h = ap (λ (t : ℕ). take b (drop t (f x ++ flatMap f xs))) (zero-mul b) ∙ take-at (f x) (flatMap f xs) b (e .0)
+flat-part f b (x ∷ xs) e (suc g) d h =
+    let z : suc g * b ≡ b + g * b = omega (arith, suc-mul g b) in
+    ap (λ (t : ℕ). take b (drop t (f x ++ flatMap f xs))) z ∙ ap (take b) (sym (drop-drop (g * b) b (f x ++ flatMap f xs)) ∙ ap (drop (g * b)) (drop-at (f x) (flatMap f xs) b (e .0)))
+    ∙ flat-part f b xs (e .1) g d (le-of-suc-le-suc h)
 
 -- the entries of a part
 pub three-from : (l : List ℕ) (j : ℕ) → j + 3 ≤ length l → take 3 (drop j l) ≡ getD l j 0 ∷ getD l (j + 1) 0 ∷ getD l (j + 2) 0 ∷ []

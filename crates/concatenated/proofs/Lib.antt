@@ -15,6 +15,7 @@ pub mod TwoWords
 pub mod DecodersAgree
 pub mod Answers
 pub mod CleanPages
+pub mod WrittenBits
 pub mod SoftPages
 pub mod Short
 pub mod Integers

@@ -69,6 +69,17 @@ unfolding listed
 all-listed P f zero h = tt
 all-listed P f (suc n) h = all-append P (listed f n) (f n ∷ []) (all-listed P f n (λ j l. h j (omega arith))) (h n (omega arith), tt)
 
+pairs-append : {A B : Type 0} (P : A → B → Type 0) (xs : List A) (ys : List B) (x : A) (y : B) → Pairs P xs ys → P x y → Pairs P (xs ++ (x ∷ [])) (ys ++ (y ∷ []))
+pairs-append P [] [] x y h k = (k, tt)
+pairs-append P [] (z ∷ ys) x y h k = absurd h
+pairs-append P (z ∷ xs) [] x y h k = absurd h
+pairs-append P (w ∷ xs) (z ∷ ys) x y h k = (h .0, pairs-append P xs ys x y (h .1) k)
+
+pub pairs-listed : {A B : Type 0} (P : A → B → Type 0) (f : ℕ → A) (g : ℕ → B) (n : ℕ) → ((j : ℕ) → j < n → P (f j) (g j)) → Pairs P (listed f n) (listed g n)
+unfolding listed
+pairs-listed P f g zero h = tt
+pairs-listed P f g (suc n) h = pairs-append P (listed f n) (listed g n) (f n) (g n) (pairs-listed P f g n (λ j l. h j (omega arith))) (h n (omega arith))
+
 pub map-listed : {A B : Type 0} (g : A → B) (f : ℕ → A) (n : ℕ) → map g (listed f n) ≡ listed (λ j. g (f j)) n
 unfolding listed
 map-listed g f zero = refl

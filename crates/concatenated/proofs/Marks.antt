@@ -8,11 +8,11 @@ use native.Mathlib.Numerals.{add-one}
 use native.Mathlib.Omega.{arith}
 use lib.Bits.{bitOr, or-shifted-r}
 use lib.Count.{ones, ones-step}
-use lib.ListN.{length, getD, take, List·getD-eq-default}
+use lib.ListN.{length, getD, take, replicate, List·getD-eq-default}
 use lib.Pow.{shl-exact, shr-shr}
 use lib.Seq.{take-suc, length-take-le}
 use Rattle.packing.specs.Packing.{digit}
-use Rattle.concatenated.specs.Lists.{total}
+use Rattle.concatenated.specs.Lists.{All, total}
 use Rattle.concatenated.specs.Flags.{flag}
 use Rattle.concatenated.specs.Decode.{Level}
 use Rattle.concatenated.specs.Outer.{isIn}
@@ -71,6 +71,19 @@ ones-are-the-total (b ∷ s) = ones-step (flag b + 2 * markOf s) ∙ ap₂ (λ (
 pub ones-of-marks : (f : Level → List Bool) (ls : List Level) → map ones (map (λ l. markOf (f l)) ls) ≡ map (λ l. total (f l)) ls
 ones-of-marks f [] = refl
 ones-of-marks f (l ∷ ls) = ap₂ (λ (n : ℕ) (ns : List ℕ). n ∷ ns) (ones-are-the-total (f l)) (ones-of-marks f ls)
+
+-- a set of no columns has no bit
+mark-of-none : (s : List Bool) → total s ≡ 0 → markOf s ≡ 0
+unfolding markOf total
+mark-of-none [] e = refl
+mark-of-none (b ∷ s) e = omega (arith, mark-of-none s (omega (arith, e)), e)
+
+-- so levels that each have none have totals and marks of 0
+pub none-at-any-level : (f : Level → List Bool) (ls : List Level) → All (λ l. total (f l) ≡ 0) ls → (map (λ l. total (f l)) ls ≡ replicate (length ls) 0) × (map (λ l. markOf (f l)) ls ≡ replicate (length ls) 0)
+none-at-any-level f [] none = (refl, refl)
+none-at-any-level f (l ∷ ls) none =
+    let others = none-at-any-level f ls (none .1) in
+    (ap₂ (λ (n : ℕ) (ns : List ℕ). n ∷ ns) (none .0) (others .0), ap₂ (λ (n : ℕ) (ns : List ℕ). n ∷ ns) (mark-of-none (f l) (none .0)) (others .1))
 
 -- one column more: its flag at the next bit
 mark-append : (s : List Bool) (b : Bool) → markOf (s ++ (b ∷ [])) ≡ flag b * 2 ^ length s + markOf s

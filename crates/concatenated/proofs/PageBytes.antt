@@ -1,9 +1,10 @@
 -- The bytes of a written page, column by column. Assumes nothing.
-use mathlib.Core.List.{List, [], _∷_, map}
+use mathlib.Core.List.{List, [], _∷_}
 use mathlib.Core.Path.{_≡_, refl, sym, ap, _∙_}
-use Prim.Native.Nat.{ℕ, zero, suc, _+_, _-_, _*_, _^_, _<_}
+use Prim.Native.Nat.{ℕ, zero, suc, _+_, _*_, _^_, _<_}
 use native.Mathlib.Omega.{arith}
-use lib.ListN.{length, length-map, getD, set}
+use lib.ListN.{length, getD, set, drop}
+use lib.Seq.{getD-take, getD-drop}
 use Rattle.column.specs.Shape.{short}
 use Rattle.column.specs.Level.{columnOf}
 use Rattle.column.proofs.Levels.{highest-lt}
@@ -11,14 +12,11 @@ use Rattle.column.proofs.Short.{sound}
 use Rattle.packing.specs.Packing.{columnBytes}
 use Rattle.packing.specs.declared.ColumnBytes.{ColumnBytes}
 use Rattle.concatenated.specs.Format.{shortPage}
-use Rattle.concatenated.specs.Written.{columnSymbols, columnsOf, columnInBytes, pageInBytes}
-use Rattle.concatenated.proofs.Lists.{listed-at, all-of-each}
-use Rattle.concatenated.proofs.Digits.{digits-length}
-use Rattle.concatenated.proofs.Encoding.{columns-of-length}
+use Rattle.concatenated.specs.Written.{columnSymbols, pageInBytes}
+use Rattle.concatenated.proofs.Encoding.{column-in-the-page}
 use Rattle.concatenated.proofs.Short.{column-in-bytes}
 use Rattle.concatenated.proofs.Filling.{Front}
-use Rattle.column.proofs.Tabulated.{map-at}
-use Rattle.concatenated.proofs.Groups.{flat-at, four-more}
+use Rattle.concatenated.proofs.Groups.{four-more}
 
 -- the symbols of column j, of four rows
 pub symbols-of-column : (rows : List (List ℕ)) (j : ℕ) → length rows ≡ 4
@@ -46,15 +44,9 @@ column-in-range s0 s1 s2 s3 h0 h1 h2 h3 = highest-lt short sound (λ k. getD (s0
 -- byte k of column j
 byte-at : (rows : List (List ℕ)) (j k : ℕ) → j < 63 → k < 4
     → let b = columnBytes (columnOf short (columnSymbols rows j)) in getD (pageInBytes shortPage rows) (j * 4 + k) 0 ≡ getD (b .b0 ∷ b .b1 ∷ b .b2 ∷ b .b3 ∷ []) k 0
-unfolding pageInBytes columnsOf columnInBytes
 byte-at rows j k h l =
-    let columns = columnsOf 63 rows in
-    let long : length columns ≡ 63 = columns-of-length 63 rows in
-    let inside : j < length columns = omega (arith, long, h) in
-    let inside-words : j < length (map (columnOf short) columns) = omega (arith, length-map columns (columnOf short), long, h) in
-    flat-at (columnInBytes shortPage) 4 (map (columnOf short) columns) (all-of-each _ (λ x. digits-length 256 4 (x * 4)) (map (columnOf short) columns)) j k 0 inside-words l
-    ∙ ap (λ (x : ℕ). getD (columnInBytes shortPage x) k 0) (map-at (columnOf short) columns j [] 0 inside ∙ ap (columnOf short) (listed-at (columnSymbols rows) 63 j [] h))
-    ∙ ap (λ (t : List ℕ). getD t k 0) (column-in-bytes (columnOf short (columnSymbols rows j)))
+    sym (getD-take 4 (drop (j * 4) (pageInBytes shortPage rows)) k 0 l ∙ getD-drop (j * 4) (pageInBytes shortPage rows) k 0)
+    ∙ ap (λ (t : List ℕ). getD t k 0) (column-in-the-page shortPage rows j h ∙ column-in-bytes (columnOf short (columnSymbols rows j)))
 
 pub column-more : (rows : List (List ℕ)) (out : List ℕ) (j w : ℕ) (b : ColumnBytes) → length rows ≡ 4 → j < 63 → Front (pageInBytes shortPage rows) out 252 (j * 4)
     → w ≡ columnOf short (getD (getD rows 0 []) j 0 ∷ getD (getD rows 1 []) j 0 ∷ getD (getD rows 2 []) j 0 ∷ getD (getD rows 3 []) j 0 ∷ [])

@@ -23,7 +23,7 @@ use Rattle.concatenated.specs.Readers.{readingOf, readerOf, deadOf, dead
 never : {X : Type 0} (w : WordFound) (m n : ℕ) → found w m ≡ spent n → X
 never w m n e = let z : _≡_ {A = ℕ} 0 1 = cc in absurd (omega arith)
 
-found-inj : (w v : WordFound) (m n : ℕ) → found w m ≡ found v n → (w ≡ v) × (m ≡ n)
+pub found-inj : (w v : WordFound) (m n : ℕ) → found w m ≡ found v n → (w ≡ v) × (m ≡ n)
 found-inj w v m n e = (cc e, cc e)
 
 module _ (S : Shape) (i : ℕ) (given : Searchable S i) (vs : ℕ → Values) (limit : ℕ) (c : List ℕ) where

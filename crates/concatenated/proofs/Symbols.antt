@@ -17,7 +17,7 @@ use Rattle.concatenated.specs.Format.{Format}
 use Rattle.concatenated.specs.Symbols.{rowAfterRow, rowIn, rowsIn, RowTest, lowestNoWord, LowestNoWord}
 use Rattle.concatenated.proofs.Lists.{all-at, all-by-entries, listed-length, listed-at}
 use Rattle.concatenated.proofs.Digits.{Below, below-is-word, word-is-below}
-use Rattle.concatenated.proofs.Groups.{flat-more, flat-all, flat-length, flat-at}
+use Rattle.concatenated.proofs.Groups.{flat-more, flat-all, flat-length, flat-part}
 
 -- ---- rows in a buffer
 
@@ -45,15 +45,7 @@ module _ (P : Format) where
   -- the rows of a page, one behind the other, are the rows in that buffer
   row-in-its-place : (rs : List (List ℕ)) → AllLong (P .columns) rs → (i : ℕ) → i < length rs → rowIn P (rowAfterRow rs) i ≡ getD rs i []
   unfolding rowAfterRow rowIn
-  row-in-its-place rs long i h =
-      let N = P .columns in
-      let behind = drop (i * N) (rowAfterRow rs) in
-      let within : suc i * N ≤ length rs * N = mul-le-mul-right N h in
-      let size : length (take N behind) ≡ N = length-take-le N behind (omega (arith, length-drop (i * N) (rowAfterRow rs), row-after-row-length N rs long, suc-mul i N, within)) in
-      ext-getD 0 (take N behind) (getD rs i []) (size ∙ sym (all-at (λ r. length r ≡ N) rs i [] long h))
-      (λ j l.
-      let inside : j < N = omega (arith, size, l) in
-      getD-take N behind j 0 inside ∙ getD-drop (i * N) (rowAfterRow rs) j 0 ∙ flat-at (λ r. r) N rs long i j [] h inside)
+  row-in-its-place rs long i h = flat-part (λ r. r) (P .columns) rs long i [] h
 
   pub rows-are-in-their-places : (rs : List (List ℕ)) → length rs ≡ levels (P .shape) → AllLong (P .columns) rs → rowsIn P (rowAfterRow rs) ≡ rs
   unfolding rowsIn

@@ -23,13 +23,12 @@ use Rattle.trellis.specs.Trellis.{WordFound, foundWord}
 use Rattle.trellis.specs.Demand.{Search as Kind, whole, supercode, trellis, wholeTrellis, supercodeTrellis, Codeword, AheadOfAll}
 use Rattle.trellis.specs.TwoWords.{Choice, off, on, hardPath, twoWords, searchedTwo, AheadOfAllBut}
 use Rattle.trellis.proofs.Demand.{Searchable, no-dead-ahead}
-use Rattle.trellis.proofs.HardPath.{hard-path-length}
 use Rattle.trellis.proofs.TwoWords.{hard-reading-in-the-code, two-words-end-by-the-numbers, hard-reading-has-no-dead-path, dead-paths-ahead-of-the-first, dead-paths-ahead-of-the-second, supercode-ending-is-whole-ending, endings-are-one}
 use Rattle.concatenated.specs.SoftPage.{hardReading}
 use native.Mathlib.Omega.{arith}
 use Rattle.concatenated.specs.Decode.{Reading, found, spent, mark}
 use Rattle.concatenated.specs.Readers.{readingOf, readerOf, deadAhead, Apart, Unended}
-use Rattle.concatenated.proofs.HardReading.{hard-path-number}
+use Rattle.concatenated.proofs.HardReading.{reading-is-a-codeword}
 use Rattle.concatenated.proofs.Searches as Searches
 
 readings-are-apart : (limit d : ℕ) (word : Path → WordFound) (a b : SearchResult Path) → Differ d a b → Apart d (readingOf limit (with-key word a)) (readingOf limit (with-key word b))
@@ -85,11 +84,10 @@ module _ (S : Shape) (i : ℕ) (given : Searchable S i) (some-symbol : 0 < S .sy
       → (readerOf (on threshold) kind S vs limit i c ≡ found (foundWord (sum (vs i) c) (hardPath c (S .bits))) 0) × (number (hardPath c (S .bits)) ≡ hardReading c) × (deadAhead (on threshold) S vs limit i c ≡ 0)
   unfolding readerOf deadAhead searchedTwo readingOf returned with-key
   hard-reading-is-found threshold kind long word =
-      let same : number (hardPath c (S .bits)) ≡ hardReading c = ap (λ (k : ℕ). number (hardPath c k)) (sym long) ∙ hard-path-number c in
-      let code : Codeword S i (hardPath c (S .bits)) = record { long = hard-path-length c (S .bits); word = subst⁻¹ (Word (S .bits) (levelCode S i)) same word } in (
-        ap (λ (e : Ending Path). readingOf limit (with-key (foundWord (sum (vs i) c)) (returned (sum (vs i) c) limit e))) (hard-reading-in-the-code S i given (vs i) c kind threshold limit code),
-        same,
-        hard-reading-has-no-dead-path S i given some-symbol (vs i) c threshold limit code .1,
+      let code = reading-is-a-codeword S i c long word in (
+        ap (λ (e : Ending Path). readingOf limit (with-key (foundWord (sum (vs i) c)) (returned (sum (vs i) c) limit e))) (hard-reading-in-the-code S i given (vs i) c kind threshold limit (code .1)),
+        code .0,
+        hard-reading-has-no-dead-path S i given some-symbol (vs i) c threshold limit (code .1) .1,
       )
 
   -- a column that is searched: w is the first word and v the second

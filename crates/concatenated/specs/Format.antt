@@ -43,6 +43,8 @@ pub record SoundFormat (P : Format) : Type 0 where
   pub packs : 256 ^ P .groupBytes ≡ symbolValues P ^ P .groupSymbols
   -- the rows have a place for each data symbol
   pub holds : dataBefore P (levels (P .shape)) ≡ P .groups * P .groupSymbols
+  -- a column has room in its bytes
+  pub column-fits : P .shape .bits ≤ 8 * P .columnBytes
 
 -- ---- the short page
 

@@ -3,22 +3,13 @@ use mathlib.Core.List.{List, [], _∷_, _++_, append-assoc, append-nil}
 use mathlib.Core.Logic.{⊎-elim}
 use mathlib.Core.Path.{_≡_, refl, sym, ap, ap₂, _∙_}
 use Prim.Native.Nat.{ℕ, zero, suc, _+_, _-_, _*_, _/_, _%_, _^_, _<_}
-use native.Mathlib.Nat.{eq-or-lt-of-le, not-suc-le-zero, le-of-suc-le-suc, mod-eq-of-lt, pow-suc, suc-inj}
+use native.Mathlib.Nat.{eq-or-lt-of-le, not-suc-le-zero, le-of-suc-le-suc, suc-inj}
 use native.Mathlib.Omega.{arith}
 use lib.ListN.{length, length-append, getD, set, take, drop}
-use lib.Pow.{pow-add}
 use lib.Seq.{take-at, drop-at, drop-drop, drop-append-le, drop-append-add}
-use Rattle.packing.specs.Packing.{joined}
 use Rattle.concatenated.specs.Data.{digits}
-use Rattle.concatenated.proofs.Digits.{digits-length, digit-at, joined-of-digits}
+use Rattle.concatenated.proofs.Digits.{digits-length, digit-at, byte-weight}
 use Rattle.station.specs.Report.{markBytes}
-
--- a byte of a number is eight of its bits
-byte-weight : (m : ℕ) → 2 ^ (8 * m) ≡ 256 ^ m
-byte-weight zero = refl
-byte-weight (suc m) =
-    let more : 8 * suc m ≡ 8 * m + 8 = omega arith in
-    ap (λ (k : ℕ). 2 ^ k) more ∙ pow-add 2 (8 * m) 8 ∙ ap (λ (w : ℕ). w * 256) (byte-weight m) ∙ sym (pow-suc 256 m)
 
 -- byte i of eight, as the code shifts for it
 pub byte-at : (n i : ℕ) → i < 8 → n / 2 ^ (8 * (7 - i)) % 256 ≡ getD (digits 256 8 n) i 0
@@ -36,10 +27,6 @@ two-bytes-written [] n h = absurd (omega (arith, h))
 two-bytes-written (x ∷ []) n h = absurd (omega (arith, h))
 two-bytes-written (x ∷ y ∷ []) n h = let all : n ≡ n / 1 = omega arith in ap (λ (m : ℕ). n / 256 % 256 ∷ m % 256 ∷ []) all
 two-bytes-written (x ∷ y ∷ z ∷ zs) n h = absurd (omega (arith, h))
-
--- bytes that hold a number give it back
-pub number-comes-back : (k n : ℕ) → n < 256 ^ k → joined 256 0 (digits 256 k n) ≡ n
-number-comes-back k n small = joined-of-digits 256 k n (omega arith) ∙ mod-eq-of-lt small
 
 -- of each level two marks of eight bytes
 two-marks-length : (c e : ℕ) → length (digits 256 8 c ++ digits 256 8 e) ≡ 16

@@ -13,7 +13,7 @@ use Rattle.trellis.specs.TwoWords.{Choice}
 use Rattle.packing.specs.Packing.{joined, sixteenBits, signedOf}
 use Rattle.packing.proofs.Signed.{signed-back, sixteen-bits-few}
 use Rattle.concatenated.specs.Data.{digits}
-use Rattle.concatenated.proofs.Digits.{digits-length}
+use Rattle.concatenated.proofs.Digits.{digits-length, number-comes-back}
 use Rattle.page.specs.Outcomes.{refusedPage, outcomeOf, Buffer}
 use Rattle.page.specs.declared.PageOutcome.{PageOutcome}
 use Rattle.page.specs.declared.Report.{Report}
@@ -24,7 +24,7 @@ use Rattle.trellis.proofs.Sums.{mag-le}
 use Rattle.station.specs.Report.{totalBytes, stepsAndTotals, stepsToMarks, lowBytes, reportBytes, changedTotalIn, erasedTotalIn, Holds}
 use Rattle.station.specs.PageReturned.{haveRoom, pageAnswer, PageReturned}
 use Rattle.store_pages.proofs.Asked.{every-way}
-use Rattle.station.proofs.Bytes.{number-comes-back, changed-part, erased-part}
+use Rattle.station.proofs.Bytes.{changed-part, erased-part}
 use Rattle.station.proofs.Marking.{front-length, to-marks-length, low-at}
 use Rattle.station.proofs.Steps.{steps-are-few}
 

@@ -7,3 +7,4 @@ pub mod ZeroPage
 pub mod Committing
 pub mod AskThenCommit
 pub mod Thresholds
+pub mod CleanPages

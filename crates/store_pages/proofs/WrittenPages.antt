@@ -27,10 +27,12 @@ use Rattle.store_pages.specs.WrittenPages.{CameBack}
 use Rattle.questions.proofs.AllInRange.{no-value-above}
 use Rattle.store_pages.proofs.Asked.{all-yes}
 
-module _ (soft : List ℕ) (values-soft : Values 1890 7 soft) (limit : ℕ) (some : 1 ≤ limit) (at-most : limit ≤ 2000) (choice : Choice) (in-range : thresholdAllowed choice ≡ true) (old : List ℕ) (room : length old ≡ 150) where
-  pub accepted : (A : Type 0) (refusal : ℕ → ℕ → A) (next : A) → next ≡ askPage choice soft limit (eqb (length old) 150) refusal next
-  accepted = all-yes choice soft limit (eqb (length old) 150) (values-soft .size) (eq-eqb _ _ room) some at-most in-range (leb-true 1890 (firstAbove soft 7) (no-value-above soft 1890 7 (values-soft .size) (values-soft .range)))
+module _ (soft : List ℕ) (values-soft : Values 1890 7 soft) (limit : ℕ) (some : 1 ≤ limit) (at-most : limit ≤ 2000) (choice : Choice) (in-range : thresholdAllowed choice ≡ true) (places : ℕ) (old : List ℕ) (room : length old ≡ places) where
+  -- the questions of a call whose buffer has its places are all answered yes
+  pub accepted : (A : Type 0) (refusal : ℕ → ℕ → A) (next : A) → next ≡ askPage choice soft limit (eqb (length old) places) refusal next
+  accepted = all-yes choice soft limit (eqb (length old) places) (values-soft .size) (eq-eqb _ _ room) some at-most in-range (leb-true 1890 (firstAbove soft 7) (no-value-above soft 1890 7 (values-soft .size) (values-soft .range)))
 
+module _ (soft : List ℕ) (values-soft : Values 1890 7 soft) (limit : ℕ) (some : 1 ≤ limit) (at-most : limit ≤ 2000) (choice : Choice) (in-range : thresholdAllowed choice ≡ true) (old : List ℕ) (room : length old ≡ 150) where
   -- what `encode_page` wrote, read within reach at each level, comes back from the call
   pub written-page-comes-back-from-the-calls : (s : Search) (bytes : List ℕ) → length bytes ≡ 150 → Below 256 bytes
       → WithinReach shortPage shortOuter (shortReader choice s limit) (columnsOf 63 (writtenRows shortPage shortEncoder bytes)) (softColumns shortPage soft)
@@ -39,11 +41,12 @@ module _ (soft : List ℕ) (values-soft : Values 1890 7 soft) (limit : ℕ) (som
   written-page-comes-back-from-the-calls s bytes full are-bytes within r new call =
       let back = written-page-comes-back shortOuter shortEncoder ShortCodeword outer-laws choice s limit bytes full are-bytes soft within in
       let D = decodedPage choice s soft limit in
-      let outcome : r ≡ outcomeOf (answered (back .0) (back .1)) = call .answer ∙ sym (accepted PageOutcome refusedPage (outcomeOf D)) ∙ ap outcomeOf (back .2) in
+      let asked = accepted soft values-soft limit some at-most choice in-range 150 old room in
+      let outcome : r ≡ outcomeOf (answered (back .0) (back .1)) = call .answer ∙ sym (asked PageOutcome refusedPage (outcomeOf D)) ∙ ap outcomeOf (back .2) in
       record {
         number = ap (λ (x : PageOutcome). x .number) outcome;
         place = ap (λ (x : PageOutcome). x .place) outcome;
-        data-are = call .bytes ∙ sym (accepted (List ℕ) (λ n p. old) (filled dataBuffer old D)) ∙ ap (filled dataBuffer old) (back .2) ∙ back .4;
+        data-are = call .bytes ∙ sym (asked (List ℕ) (λ n p. old) (filled dataBuffer old D)) ∙ ap (filled dataBuffer old) (back .2) ∙ back .4;
         levels = back .0;
         answered-so = back .2 ∙ ap (λ (x : PageOutcome). answered (back .0) (x .report .steps)) (sym outcome);
         rows-are-written = back .3;

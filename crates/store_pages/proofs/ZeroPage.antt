@@ -29,7 +29,7 @@ pub zero-page-comes-back-from-the-calls : (s : Search) (limit : ℕ) → 30 ≤ 
     → (r ≡ record { number = 0; place = 0; report = noColumns 7560 (pos 2) }) × (new ≡ replicate 150 0)
 unfolding outcomeOf filled total markOf listed pageLow allLows flatMap lowest lowest-from lower
 zero-page-comes-back-from-the-calls s limit enough most old room r new call =
-    let asked = accepted (zeroPage shortPage) zeros-are-soft limit (omega arith) most off refl old room in
+    let asked = accepted (zeroPage shortPage) zeros-are-soft limit (omega arith) most off refl 150 old room in
     let D = decodedPage off s (zeroPage shortPage) limit in
     let back = zero-page-comes-back s limit enough in (
       call .answer ∙ sym (asked PageOutcome refusedPage (outcomeOf D)) ∙ ap outcomeOf back,

@@ -3,3 +3,4 @@ pub mod BothDecoders
 pub mod WrittenPages
 pub mod Reports
 pub mod Committing
+pub mod CleanPages
