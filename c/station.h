@@ -42,6 +42,10 @@
    asking has no list of two, so a station that decodes with it and has to know the damage before the old record is overwritten decodes into a
    second buffer of STATION_DATA_LEN bytes, reads the report, and copies.
 
+   WEAK READINGS. A page whose soft values all read as the written bits, however weakly, never comes back as other data: decoding gives its data with no
+   column changed, or refuses it by 10 because more columns are erased at a level than its row bears, 30, 12, 6 or 4. With list of two no such column is
+   searched, so that the page always comes back, in 0 steps and with no column erased.
+
    ASK, THEN COMMIT. Decoding writes over its data buffer as soon as there is an answer. A station that has to know the damage before the old record
    is overwritten asks first: station_ask_page touches no data. It returns what station_decode_page would return, with the same report, and fills in
    the corrected symbols: four rows of 63, row after row, the row of level 0 first. If the report is good enough, station_commit_page writes the data

@@ -737,6 +737,30 @@ static tally check_ties(void) {
     return t;
 }
 
+/* Columns that read as a word of their level, all values as sure: the steps by the supercode and by the whole search, whatever the word; 0 where 2,000 do not suffice. The table of docs/AGING.md. */
+static tally check_weak_columns(void) {
+    static const uint64_t steps[4][4][2] = {
+        {{30, 30}, {30, 30}, {30, 30}, {30, 30}}, {{30, 30}, {30, 30}, {30, 30}, {30, 30}}, {{85, 85}, {30, 30}, {30, 30}, {30, 30}}, {{0, 0}, {0, 0}, {1533, 1004}, {30, 30}},
+    };
+    tally t = {0, 0, 0};
+    uint64_t state = 20261117;
+    for (int doubt = 0; doubt < 4; doubt++)
+        for (uint64_t level = 0; level < 4; level++)
+            for (int n = 0; n < 20; n++) {
+                uint8_t soft[BITS];
+                uint64_t word = 0;
+                for (uint64_t i = level; i < 4; i++) word ^= entry_level_word(i, drawn(&state) >> 2).value;
+                for (int k = 0; k < BITS; k++) soft[k] = (uint8_t)(word >> (BITS - 1 - k) & 1 ? 7 - doubt : doubt);
+                for (int whole = 0; whole < 2; whole++, t.checked++) {
+                    const uint64_t due = steps[doubt][level][whole];
+                    const found read = {.word = word, .count = due, .low = (int16_t)walk_of(soft, level, word).low}, spent = {.number = 9};
+                    t.differ += !same_found(searched(without_list(whole ? "whole" : "super"), soft, BITS, level, 2000), due ? read : spent);
+                }
+            }
+    printf("columns of one sureness: %lu checked, %lu differ\n", t.checked, t.differ);
+    return t;
+}
+
 /* A page of right readings, by single searches of its columns: at each level those of the columns with the lower levels' written words taken off. Each finds the written word or is spent, and an
    answer takes up to 30, 12, 6, 4 spent ones. `page` is what was written, `soft` what is read of it. */
 static int clean_report(way w, const uint8_t *page, const uint8_t *soft, uint64_t limit, paged *report) {
@@ -768,10 +792,10 @@ static int clean_report(way w, const uint8_t *page, const uint8_t *soft, uint64_
     return 1;
 }
 
-/* How weak the right readings of a page are: as sure as can be; of any sureness; of the last but one; of the least; of the least in three columns, else sure. */
-enum { SURENESSES = 5 };
+/* How weak the right readings of a page are: as sure as can be; of any sureness; of the last but one; of the least; of the least in six, seven, twelve or thirteen columns, else sure. */
+enum { SURENESSES = 8 };
 static int doubt_of(int kind, int column, uint8_t draw) {
-    const int doubts[SURENESSES] = {0, draw % 4, 2, 3, column % 21 ? 0 : 3};
+    const int doubts[SURENESSES] = {0, draw % 4, 2, 3, column < 6 ? 3 : 0, column < 7 ? 3 : 0, column < 12 ? 3 : 0, column < 13 ? 3 : 0};
     return doubts[kind];
 }
 
@@ -785,7 +809,7 @@ static tally check_clean(void) {
     unsigned long unharmed = 0, with_erased = 0, refused = 0;
     tally t = {0, 0, 0};
     uint64_t state = 20261117;
-    for (int n = 0; n < 2 * SURENESSES; n++) {
+    for (int n = 0; n < SURENESSES; n++) {
         write_page(&state, data, page);
         for (int k = 0; k < SOFT; k++) {
             const int doubt = doubt_of(n % SURENESSES, k / BITS, drawn(&state));
@@ -839,7 +863,7 @@ static tally check_look_ups(void) {
 
 int main(int argc, char **argv) {
     const char *folder = argc > 1 ? argv[1] : "tests/vectors";
-    tally parts[TEXTS + 7];
+    tally parts[TEXTS + 8];
     for (int i = 0; i < TEXTS; i++) parts[i] = check_file(folder, texts[i].name, texts[i].line_of);
     count_left(folder, "");
     count_left(folder, "long/");
@@ -849,14 +873,15 @@ int main(int argc, char **argv) {
     parts[TEXTS + 3] = check_look_ups();
     parts[TEXTS + 4] = check_lists();
     parts[TEXTS + 5] = check_ties();
-    parts[TEXTS + 6] = check_clean();
+    parts[TEXTS + 6] = check_weak_columns();
+    parts[TEXTS + 7] = check_clean();
     unsigned long checked = 0, differ = 0;
     if (pages_compared) {
         printf("pages and limits outside the premise where the two decoders differ: %lu\n", pages_apart);
         printf("pages and thresholds with list of two inside the premise where second words were sought: %lu\n", seconds_compared);
         differ += !pages_apart + !seconds_compared;
     }
-    for (int i = 0; i < TEXTS + 7; i++) {
+    for (int i = 0; i < TEXTS + 8; i++) {
         checked += parts[i].checked;
         differ += parts[i].differ;
     }

@@ -133,8 +133,8 @@ module _ (vs : Values) (above : AgreeingIsAbove vs) (c : List ℕ) where
 module _ (S : Shape) (searchable : (i : ℕ) → i < levels S → Searchable S i) (vs : ℕ → Values) (limit : ℕ) (kind : Kind) where
   -- both searches find the reading of a column that reads as a codeword, if they are not spent
   searches-find-the-reading : ((i : ℕ) → AgreeingIsAbove (vs i)) → FindsTheReading S (readerOf off kind S vs limit)
-  searches-find-the-reading above i h c x n long soft word e =
-      let code = reading-is-a-codeword S i c long word in
+  searches-find-the-reading above i h c x n soft word e =
+      let code = reading-is-a-codeword S i c (word .0) (word .1) in
       let hard : Path = hardPath c (S .bits) in
       let best = codeword-read-is-ahead-of-all (vs i) (above i) c S i hard (searchable i h .some-bits) (code .1) (hard-path-reads (vs i) (above i) c (S .bits)) in
       ap (λ (y : WordFound). y .column) (found-is-ahead-of-all S i (searchable i h) vs limit c kind hard best x n e .0) ∙ code .0
@@ -142,8 +142,8 @@ module _ (S : Shape) (searchable : (i : ℕ) → i < levels S → Searchable S i
   module _ (some-symbol : 0 < S .symbol) where
     -- with list of two it is taken as it reads
     pub lists-take-the-reading : (threshold : ℤ) → TakesTheReading S (readerOf (on threshold) kind S vs limit)
-    lists-take-the-reading threshold i h c long word =
-        let r = hard-reading-is-found S i (searchable i h) some-symbol vs limit c threshold kind long word in (_, r .1, r .0)
+    lists-take-the-reading threshold i h c word =
+        let r = hard-reading-is-found S i (searchable i h) some-symbol vs limit c threshold kind (word .0) (word .1) in (_, r .1, r .0)
 
     pub readers-find-the-reading : (choice : Choice) → ((i : ℕ) → AgreeingIsAbove (vs i)) → FindsTheReading S (readerOf choice kind S vs limit)
     readers-find-the-reading off above = searches-find-the-reading above

@@ -23,7 +23,7 @@ use Rattle.concatenated.specs.Decode.{Reading, found, spent, Reader, mar
 use Rattle.concatenated.specs.Written.{writtenRows, columnSymbols, columnsOf, rowAt, writtenSum, bytesOfRows}
 use Rattle.concatenated.specs.Misread.{otherThan, othersThan, misread}
 use Rattle.concatenated.specs.Readers.{AllRead}
-use Rattle.concatenated.specs.Clean.{BackUnchanged, BackUnharmed, TooManyUnread, ReadsAs, FindsTheReading, TakesTheReading}
+use Rattle.concatenated.specs.Clean.{BackUnchanged, BackUnharmed, TooManyUnread, ReadsAsAWord, ReadsAs, FindsTheReading, TakesTheReading}
 use Rattle.concatenated.proofs.Lists.{all-map, all-listed}
 use Rattle.concatenated.proofs.Digits.{Below}
 use Rattle.concatenated.proofs.TakingOff.{off-length, column-stays-soft, taking-off-adds-to-the-reading}
@@ -46,8 +46,8 @@ no-steps read (c ∷ cs) h = rw (h .0 .1) (omega (arith, no-steps read cs (h .1)
 
 -- who takes a column as it reads finds its reading
 pub taking-is-finding : (S : Shape) (read : Reader) → TakesTheReading S read → FindsTheReading S read
-taking-is-finding S read takes i h c w n long soft word e =
-    let t = takes i h c long word in
+taking-is-finding S read takes i h c w n soft word e =
+    let t = takes i h c word in
     ap (λ (x : WordFound). x .column) (found-inj w (t .0) n 0 (sym e ∙ t .2) .0) ∙ t .1
 
 module _ (S : Shape) (ok : Sound S) where
@@ -93,20 +93,15 @@ module _ (S : Shape) (ok : Sound S) where
   reads-on i h (c ∷ cs) [] soft range e = absurd e
   reads-on i h (c ∷ cs) (s ∷ ws) soft range e = (column-reads-on i c s h (soft .0) (range .0) (e .0), reads-on i h cs ws (soft .1) (range .1) (e .1))
 
-  sum-of-level-words : (i : ℕ) (s : List ℕ) → i < levels S → InRange s → Word (S .bits) (levelCode S i) (writtenSum S i s)
+  column-reads-as-a-word : (i : ℕ) (c s : List ℕ) → i < levels S → SoftColumn c → InRange s → hardReading c ≡ writtenSum S i s → ReadsAsAWord S i c
   unfolding writtenSum
-  sum-of-level-words i s h range = sum-is-word S ok (λ k. getD s k 0) i range h
+  column-reads-as-a-word i c s h soft range e = (soft .0, subst⁻¹ (Word (S .bits) (levelCode S i)) e (sum-is-word S ok (λ k. getD s k 0) i range h))
 
-  -- a column that reads as a word of level i
-  abbrev pub ReadsAsAWord : ℕ → List ℕ → Type 0
-  ReadsAsAWord i c = (length c ≡ S .bits) × Word (S .bits) (levelCode S i) (hardReading c)
-
-  columns-read-as-words : (i : ℕ) → i < levels S → (cs ws : List (List ℕ)) → All SoftColumn cs → All InRange ws → ReadsAs S i cs ws → All (ReadsAsAWord i) cs
+  columns-read-as-words : (i : ℕ) → i < levels S → (cs ws : List (List ℕ)) → All SoftColumn cs → All InRange ws → ReadsAs S i cs ws → All (ReadsAsAWord S i) cs
   columns-read-as-words i h [] [] soft range e = tt
   columns-read-as-words i h [] (s ∷ ws) soft range e = absurd e
   columns-read-as-words i h (c ∷ cs) [] soft range e = absurd e
-  columns-read-as-words i h (c ∷ cs) (s ∷ ws) soft range e =
-      ((soft .0 .0, subst⁻¹ (Word (S .bits) (levelCode S i)) (e .0) (sum-of-level-words i s h (range .0))), columns-read-as-words i h cs ws (soft .1) (range .1) (e .1))
+  columns-read-as-words i h (c ∷ cs) (s ∷ ws) soft range e = (column-reads-as-a-word i c s h (soft .0) (range .0) (e .0), columns-read-as-words i h cs ws (soft .1) (range .1) (e .1))
 
   none-misread : (read : Reader) → FindsTheReading S read → (i : ℕ) → i < levels S → (cs vs : List (List ℕ)) → All SoftColumn cs → All InRange vs → ReadsAs S i cs vs
       → total (misread S i vs (map (read i) cs)) ≡ 0
@@ -120,8 +115,8 @@ module _ (S : Shape) (ok : Sound S) where
       right : (r : Reading) → read i c ≡ r → otherThan (writtenSum S i s) (read i c) ≡ false
       right (spent n) f = ap (otherThan (writtenSum S i s)) f
       right (found v n) f =
-          let word : Word (S .bits) (levelCode S i) (hardReading c) = subst⁻¹ (Word (S .bits) (levelCode S i)) (e .0) (sum-of-level-words i s h (range .0)) in
-          ap (otherThan (writtenSum S i s)) f ∙ ap not (eq-eqb (v .column) (writtenSum S i s) (finds i h c v n (soft .0 .0) (soft .0 .1) word f ∙ e .0))
+          let word = column-reads-as-a-word i c s h (soft .0) (range .0) (e .0) in
+          ap (otherThan (writtenSum S i s)) f ∙ ap not (eq-eqb (v .column) (writtenSum S i s) (finds i h c v n (soft .0 .1) word f ∙ e .0))
 
   module _ (ws page : List (List ℕ)) (soft : All SoftColumn page) (range : All InRange ws) (clean : ReadsAs S 0 page ws) where
     pub cleared-soft : (i : ℕ) → All SoftColumn (cleared S ws page i)
@@ -164,7 +159,7 @@ module _ (P : Format) (ok : SoundFormat P) (outer : RowDecoder) (encoded : RowEn
   reads-at i h = cleared-reads T (ok .shape-sound) ws page soft in-range clean i (omega arith)
 
   -- each reads as a word of the level
-  words-at : (i : ℕ) → i < levels T → All (ReadsAsAWord T (ok .shape-sound) i) (at i)
+  words-at : (i : ℕ) → i < levels T → All (ReadsAsAWord T i) (at i)
   words-at i h = columns-read-as-words T (ok .shape-sound) i h (at i) ws (soft-at i) in-range (reads-at i h)
 
   -- ---- any reader that finds such a word, if it finds one
@@ -225,26 +220,26 @@ module _ (P : Format) (ok : SoundFormat P) (outer : RowDecoder) (encoded : RowEn
       clean-page-steps = refl
 
       -- at every level that the decoder comes to, each column reads as a word of the level
-      pub every-column-reads-as-a-word : AtEveryLevel T outer read page (λ i cs. All (ReadsAsAWord T (ok .shape-sound) i) cs)
+      pub every-column-reads-as-a-word : AtEveryLevel T outer read page (λ i cs. All (ReadsAsAWord T i) cs)
       every-column-reads-as-a-word i h cs there =
-          subst (All (ReadsAsAWord T (ok .shape-sound) i)) (going-inj (at i) cs _ (there .0) _ (there .1) (sym (comes i (omega arith)) ∙ there .2) .0) (words-at i h)
+          subst (All (ReadsAsAWord T i)) (going-inj (at i) cs _ (there .0) _ (there .1) (sym (comes i (omega arith)) ∙ there .2) .0) (words-at i h)
 
   -- ---- a reader that takes such a column as it reads: nothing is spent, and no step is taken
 
   module _ (read : Reader) (takes : TakesTheReading T read) where
     read-at : (i : ℕ) → i < levels T → AllRead read i (at i)
     unfolding mark
-    read-at i h = all-map (at i) (λ c word. ap mark (takes i h c (word .0) (word .1) .2)) (words-at i h)
+    read-at i h = all-map (at i) (λ c word. ap mark (takes i h c word .2)) (words-at i h)
 
     no-steps-at : (i : ℕ) → i < levels T → steps (readings T read ws page i) ≡ 0
-    no-steps-at i h = no-steps (read i) (at i) (all-map (at i) (λ c word. let t = takes i h c (word .0) (word .1) in (t .0, t .2)) (words-at i h))
+    no-steps-at i h = no-steps (read i) (at i) (all-map (at i) (λ c word. let t = takes i h c word in (t .0, t .2)) (words-at i h))
 
     no-steps-below : (i : ℕ) → i ≤ levels T → writtenSteps T read ws page i ≡ 0
     unfolding writtenSteps
     no-steps-below zero h = refl
     no-steps-below (suc i) h = omega (arith, no-steps-below i (omega arith), no-steps-at i (omega arith))
 
-    pub taken-page-comes-back : (back : BackUnharmed P encoded bytes (decoded T outer read page)) × (back .unchanged .steps ≡ 0) × AtEveryLevel T outer read page (λ i cs. All (ReadsAsAWord T (ok .shape-sound) i) cs)
+    pub taken-page-comes-back : (back : BackUnharmed P encoded bytes (decoded T outer read page)) × (back .unchanged .steps ≡ 0) × AtEveryLevel T outer read page (λ i cs. All (ReadsAsAWord T i) cs)
     taken-page-comes-back =
         let finds = taking-is-finding T read takes in
         let all-read : (i : ℕ) → i < levels T → Reaches T outer read page i (at i) → AllRead read i (at i) = λ i h there. read-at i h in

@@ -118,7 +118,7 @@ module _ (outer : RowDecoder) (encoded : RowEncoder) (Codeword : ℕ → List �
     clean-page-comes-back-unsearched threshold =
         let back = CleanPages.taken-page-comes-back shortPage short-page-sound outer encoded Codeword laws bytes full are-bytes page (as-many-columns shortPage soft) (columns-are-soft shortPage soft long values-soft) clean
         (shortReader (on threshold) kind limit) (lists-take-the-reading short Columns.searchable levelValues limit kind (lit< tt) threshold) in
-        (back .0, back .1, λ i h cs there. all-map cs (λ c word. (word .1, hard-reading-in-the-code short i (Columns.searchable i h) (levelValues i) c kind threshold limit (reading-is-a-codeword short i c (word .0) (word .1) .1))) (back .2 i h cs there))
+        (back .0, back .1, λ i h cs there. all-map cs (λ c word. (word, hard-reading-in-the-code short i (Columns.searchable i h) (levelValues i) c kind threshold limit (reading-is-a-codeword short i c (word .0) (word .1) .1))) (back .2 i h cs there))
 
 -- demand 3 for pages, of every outer decoder; 02, point 1: "With the choice on, both decoders still match on pages where no supercode search, first or second, met its limit"
 module _ (outer : RowDecoder) (choice : Choice) (limit : ℕ) (page : List (List ℕ)) (none-ended : NoneEnded choice short outer levelValues limit page) where

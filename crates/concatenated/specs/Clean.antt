@@ -55,11 +55,15 @@ pub record TooManyUnread (P : Format) (outer : RowDecoder) (read : Reader) (page
   pub reached : Reaches (P .shape) outer read page level columns
   pub too-many : P .roots level < total (unread (map (read level) columns))
 
+-- a column of the right length that reads as a word of level i
+abbrev pub ReadsAsAWord : Shape → ℕ → List ℕ → Type 0
+ReadsAsAWord S i c = (length c ≡ S .bits) × Word (S .bits) (levelCode S i) (hardReading c)
+
 -- 02: "Under list of two .. no search is made": at every level that the decoder comes to, each column reads as a word of the level, and is taken as it reads
 abbrev pub NoSearchMade : Shape → RowDecoder → (ℕ → Values) → ℤ → Kind → ℕ → List (List ℕ) → Type 0
 NoSearchMade S outer vs threshold kind limit page =
     AtEveryLevel S outer (readerOf (on threshold) kind S vs limit) page
-    (λ i cs. All (λ c. Word (S .bits) (levelCode S i) (hardReading c) × (twoWords kind S (vs i) threshold limit c i ≡ unsearched (hardPath c (S .bits)))) cs)
+    (λ i cs. All (λ c. ReadsAsAWord S i c × (twoWords kind S (vs i) threshold limit c i ≡ unsearched (hardPath c (S .bits)))) cs)
 
 -- ---- Theory: what the laws ask of columns, readers and values
 
@@ -69,13 +73,11 @@ ReadsAs S i cs ws = Pairs (λ c s. hardReading c ≡ writtenSum S i s) cs ws
 
 -- a soft column that reads as a word of the level is found to be this word, if its search is not spent
 abbrev pub FindsTheReading : Shape → Reader → Type 0
-FindsTheReading S read =
-    (i : ℕ) → i < levels S → (c : List ℕ) (w : WordFound) (n : ℕ) → length c ≡ S .bits → Soft c → Word (S .bits) (levelCode S i) (hardReading c) → read i c ≡ found w n → w .column ≡ hardReading c
+FindsTheReading S read = (i : ℕ) → i < levels S → (c : List ℕ) (w : WordFound) (n : ℕ) → Soft c → ReadsAsAWord S i c → read i c ≡ found w n → w .column ≡ hardReading c
 
 -- it is found to be this word without a step
 abbrev pub TakesTheReading : Shape → Reader → Type 0
-TakesTheReading S read =
-    (i : ℕ) → i < levels S → (c : List ℕ) → length c ≡ S .bits → Word (S .bits) (levelCode S i) (hardReading c) → (w : WordFound) × (w .column ≡ hardReading c) × (read i c ≡ found w 0)
+TakesTheReading S read = (i : ℕ) → i < levels S → (c : List ℕ) → ReadsAsAWord S i c → (w : WordFound) × (w .column ≡ hardReading c) × (read i c ≡ found w 0)
 
 -- at each sureness an agreeing value is above a disagreeing one
 abbrev pub AgreeingIsAbove : Values → Type 0

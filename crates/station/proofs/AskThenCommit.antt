@@ -21,7 +21,7 @@ use Rattle.station.specs.PageReturned.{pageAnswer, PageReturned, PageDec
 use Rattle.station.proofs.Asked.{report-has-room}
 
 -- an entry with room for the report is the call
-as-the-call : (B : Buffer) (choice : Choice) (soft : List ℕ) (limit : ℕ) (buffer report : List ℕ) (r : ℕ) (newBuffer newReport : List ℕ) → length report ≡ 78
+pub as-the-call : (B : Buffer) (choice : Choice) (soft : List ℕ) (limit : ℕ) (buffer report : List ℕ) (r : ℕ) (newBuffer newReport : List ℕ) → length report ≡ 78
     → PageReturned B choice soft limit buffer report r newBuffer newReport → PageFilled B choice supercode soft limit buffer (pageAnswer B choice soft limit buffer report) newBuffer
 as-the-call B choice soft limit buffer report r newBuffer newReport room entry =
     let D = decodedPage choice supercode soft limit in

@@ -6,3 +6,4 @@ pub mod Bytes
 pub mod Marking
 pub mod ReadBack
 pub mod AskThenCommit
+pub mod CleanPages

@@ -1,3 +1,4 @@
 pub mod Returned
 pub mod Report
 pub mod PageReturned
+pub mod CleanPages

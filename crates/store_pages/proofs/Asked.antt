@@ -11,6 +11,7 @@ use lib.ListN.{length}
 use mir.Syntax.{w64}
 use mir.Val.{SFits, toZ, ofZ}
 use Rattle.column.specs.Shape.{short}
+use Rattle.dump.specs.Accepted.{Values}
 use Rattle.trellis.specs.Demand.{Search}
 use Rattle.trellis.specs.TwoWords.{Choice, thresholdAllowed}
 use Rattle.search.specs.Outcomes.{searchOf}
@@ -27,6 +28,7 @@ use Rattle.page.specs.declared.PageOutcome.{PageOutcome}
 use Rattle.questions.specs.Questions.{ask, firstAbove}
 use Rattle.questions.specs.declared.Outcome.{Outcome}
 use Rattle.questions.specs.declared.Outcome.the-variants.{Done, Refused}
+use Rattle.questions.proofs.AllInRange.{no-value-above}
 use Rattle.questions.proofs.EitherWay.{by-answer, either, first-bad, asked-done}
 use Rattle.store_pages.specs.Pages.{askPage, decodedPage, PageFilled}
 use Rattle.store_pages.proofs.SoftValues.{values-are-soft}
@@ -98,6 +100,12 @@ module _ (choice : Choice) (soft : List ℕ) (limit : ℕ) (room : Bool) where
 
   pub refusals-are-numbered : Numbered (askPage choice soft limit room Refused Done)
   refusals-are-numbered = every-way Numbered Refused Done (λ n p some few near. some) (λ most. tt)
+
+-- the questions of a call with right values and limit, whose buffer has its places
+pub accepted : (soft : List ℕ) → Values 1890 7 soft → (limit : ℕ) → 1 ≤ limit → limit ≤ 2000 → (choice : Choice) → thresholdAllowed choice ≡ true → (places : ℕ) (old : List ℕ) → length old ≡ places
+    → (A : Type 0) (refusal : ℕ → ℕ → A) (next : A) → next ≡ askPage choice soft limit (eqb (length old) places) refusal next
+accepted soft values-soft limit some at-most choice in-range places old room =
+    all-yes choice soft limit (eqb (length old) places) (values-soft .size) (eq-eqb _ _ room) some at-most in-range (leb-true 1890 (firstAbove soft 7) (no-value-above soft 1890 7 (values-soft .size) (values-soft .range)))
 
 -- so a call that gives the refusal and keeps the buffer, or what the page's answer gives, gives what is due
 module _ (B : Buffer) (choice : Choice) (s : Search) (soft : List ℕ) (limit : ℕ) (old : List ℕ) where

@@ -43,7 +43,7 @@ use Rattle.store_pages.specs.Pages.{decodedPage, PageFilled, PageDecoded
 use Rattle.store_pages.specs.Committing.{heldBytes, Committed, FourWords}
 use Rattle.store_pages.specs.CleanPages.{RightReadings, writtenSymbols, CameBackUnharmed, CameBackUnchanged, RefusedForUnread}
 use Rattle.store_pages.proofs.SoftValues.{values-are-soft}
-use Rattle.store_pages.proofs.WrittenPages.{accepted}
+use Rattle.store_pages.proofs.Asked.{accepted}
 use Rattle.store_pages.proofs.Committing.{commit-accepts-exactly}
 
 -- ---- reports

@@ -3,8 +3,6 @@ use mathlib.Core.Bool.{true}
 use mathlib.Core.List.{List}
 use mathlib.Core.Path.{_≡_, sym, ap, _∙_}
 use Prim.Native.Nat.{ℕ, _≤_}
-use borrow.Author.Tests.{eq-eqb, leb-true}
-use lib.Dec.{eqb}
 use lib.ListN.{length}
 use Rattle.dump.specs.Accepted.{Values}
 use Rattle.trellis.specs.Demand.{Search}
@@ -16,21 +14,14 @@ use Rattle.concatenated.specs.Written.{writtenRows, columnsOf}
 use Rattle.concatenated.specs.Misread.{WithinReach}
 use Rattle.concatenated.specs.Readers.{shortReader}
 use Rattle.concatenated.specs.OuterCode.{shortOuter, shortEncoder, ShortCodeword}
-use Rattle.questions.specs.Questions.{firstAbove}
 use Rattle.page.specs.Outcomes.{reportOf, refusedPage, outcomeOf, dataBuffer, filled}
 use Rattle.page.specs.declared.PageOutcome.{PageOutcome}
 use Rattle.concatenated.proofs.Digits.{Below}
 use Rattle.concatenated.proofs.OuterJoint.{outer-laws}
 use Rattle.concatenated.proofs.Short.{written-page-comes-back}
-use Rattle.store_pages.specs.Pages.{decodedPage, askPage, PageFilled}
+use Rattle.store_pages.specs.Pages.{decodedPage, PageFilled}
 use Rattle.store_pages.specs.WrittenPages.{CameBack}
-use Rattle.questions.proofs.AllInRange.{no-value-above}
-use Rattle.store_pages.proofs.Asked.{all-yes}
-
-module _ (soft : List ℕ) (values-soft : Values 1890 7 soft) (limit : ℕ) (some : 1 ≤ limit) (at-most : limit ≤ 2000) (choice : Choice) (in-range : thresholdAllowed choice ≡ true) (places : ℕ) (old : List ℕ) (room : length old ≡ places) where
-  -- the questions of a call whose buffer has its places are all answered yes
-  pub accepted : (A : Type 0) (refusal : ℕ → ℕ → A) (next : A) → next ≡ askPage choice soft limit (eqb (length old) places) refusal next
-  accepted = all-yes choice soft limit (eqb (length old) places) (values-soft .size) (eq-eqb _ _ room) some at-most in-range (leb-true 1890 (firstAbove soft 7) (no-value-above soft 1890 7 (values-soft .size) (values-soft .range)))
+use Rattle.store_pages.proofs.Asked.{accepted}
 
 module _ (soft : List ℕ) (values-soft : Values 1890 7 soft) (limit : ℕ) (some : 1 ≤ limit) (at-most : limit ≤ 2000) (choice : Choice) (in-range : thresholdAllowed choice ≡ true) (old : List ℕ) (room : length old ≡ 150) where
   -- what `encode_page` wrote, read within reach at each level, comes back from the call

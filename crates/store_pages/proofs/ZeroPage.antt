@@ -18,7 +18,7 @@ use Rattle.page.specs.Outcomes.{noColumns, refusedPage, outcomeOf, dataBuffer, 
 use Rattle.page.specs.declared.PageOutcome.{PageOutcome}
 use Rattle.concatenated.proofs.ZeroPage.{zero-page-comes-back, zero-levels-hold-zeros}
 use Rattle.store_pages.specs.Pages.{decodedPage, PageDecoded}
-use Rattle.store_pages.proofs.WrittenPages.{accepted}
+use Rattle.store_pages.proofs.Asked.{accepted}
 
 zeros-are-soft : Values 1890 7 (zeroPage shortPage)
 zeros-are-soft = record { size = refl; range = λ k h. let none : getD {A = ℕ} (replicate 1890 0) k 0 ≡ 0 = getD-replicate 1890 k 0 0 h in omega arith }
