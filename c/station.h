@@ -43,8 +43,8 @@
    second buffer of STATION_DATA_LEN bytes, reads the report, and copies.
 
    WEAK READINGS. A page whose soft values all read as the written bits, however weakly, never comes back as other data: decoding gives its data with no
-   column changed, or refuses it by 10 because more columns are erased at a level than its row bears, 30, 12, 6 or 4. With list of two no such column is
-   searched, so that the page always comes back, in 0 steps and with no column erased.
+   column changed, or refuses it by 10 because more columns are erased at a level than its row bears, 30, 12, 6 or 4. station_decode_page_list searches
+   none of its columns and always gives its data, in 0 steps and with no column erased.
 
    ASK, THEN COMMIT. Decoding writes over its data buffer as soon as there is an answer. A station that has to know the damage before the old record
    is overwritten asks first: station_ask_page touches no data. It returns what station_decode_page would return, with the same report, and fills in

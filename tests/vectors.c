@@ -775,7 +775,7 @@ static int clean_report(way w, const uint8_t *page, const uint8_t *soft, uint64_
         for (int j = 0; j < ROW; j++) {
             const found f = searched(w, column[j], BITS, i, limit);
             const told reimaged = entry_reimage(i, word[j]), of_level = entry_level_word(i, reimaged.value);
-            if ((f.number && f.number != 9) || (!f.number && f.word != word[j]) || reimaged.number) return 0;
+            if ((f.number && f.number != 9) || (!f.number && (f.word != word[j] || f.low != walk_of(column[j], i, f.word).low)) || reimaged.number) return 0;
             report->steps += f.number ? limit : f.count;
             report->erased_marks[i] |= (uint64_t)(f.number == 9) << j;
             if (!f.number && f.low < report->low) report->low = f.low;
@@ -792,47 +792,64 @@ static int clean_report(way w, const uint8_t *page, const uint8_t *soft, uint64_
     return 1;
 }
 
-/* How weak the right readings of a page are: as sure as can be; of any sureness; of the last but one; of the least; of the least in six, seven, twelve or thirteen columns, else sure. */
-enum { SURENESSES = 8 };
-static int doubt_of(int kind, int column, uint8_t draw) {
-    const int doubts[SURENESSES] = {0, draw % 4, 2, 3, column < 6 ? 3 : 0, column < 7 ? 3 : 0, column < 12 ? 3 : 0, column < 13 ? 3 : 0};
-    return doubts[kind];
+/* How weak the right readings of a page are: of the least sureness in the first columns, else sure; of the last sureness but one; of any. Of the first kind it is known what comes of a page with limits
+   500 and 2,000, by either search: the level that refuses it, or how many columns are erased at levels 0 to 2. */
+enum { MIXTURES = 8, LAST_BUT_ONE = 6, ANY = 7, BACK = -1 };
+static const struct { int least_sure, refused[2]; uint8_t erased[2][3]; } mixtures[LAST_BUT_ONE] = {
+    {0, {BACK, BACK}, {{0, 0, 0}, {0, 0, 0}}}, {6, {BACK, BACK}, {{6, 6, 6}, {6, 6, 0}}}, {7, {2, BACK}, {{0, 0, 0}, {7, 7, 0}}},
+    {12, {2, BACK}, {{0, 0, 0}, {12, 12, 0}}}, {13, {1, 1}, {{0}}},                       {ROW, {0, 0}, {{0}}},
+};
+
+static int doubt_of(int mixture, int column, uint8_t draw) { return mixture == ANY ? draw % 4 : mixture == LAST_BUT_ONE ? 2 : column < mixtures[mixture].least_sure ? 3 : 0; }
+
+static int known_page(int mixture, uint64_t limit, const paged *p) {
+    const int large = limit == 2000;
+    if (mixture >= LAST_BUT_ONE || (limit != 500 && !large)) return 1;
+    if (mixtures[mixture].refused[large] != BACK) return p->number == 10 && p->place == (uint64_t)mixtures[mixture].refused[large];
+    return !p->number && !memcmp(p->erased, mixtures[mixture].erased[large], 3) && !p->erased[3];
 }
 
-/* Point 12 of document 02, right but weak readings: the data comes back with no column changed, or the page is refused and nothing is written. With list of two it comes back in 0 steps with none erased,
-   at every limit. Without it that is so only where no column is spent: pages with erased columns and refused ones are met as well. */
+/* Decoding and asking of such a page give its data with no column changed, or refuse it by 10 and write nothing, as the single searches tell; with list of two they give the data in 0 steps with none
+   erased. The report is left in p. */
+static int clean_page_right(way w, int mixture, const uint8_t *data, const uint8_t *page, const uint8_t *soft, uint64_t limit, paged *p) {
+    uint8_t out[DATA], symbols[SYMBOLS], committed[DATA];
+    paged expected;
+    memset(out, UNTOUCHED, DATA);
+    memset(symbols, UNTOUCHED, SYMBOLS);
+    *p = decoded(w, soft, SOFT, limit, out, DATA);
+    const paged a = asked(w, soft, SOFT, limit, symbols, SYMBOLS), unsearched = {.low = p->low};
+    if (!clean_report(w, page, soft, limit, &expected) || !same_report(p, &expected) || !same_report(&a, &expected)) return 0;
+    if (w.list ? !same_report(p, &unsearched) : !known_page(mixture, limit, p)) return 0;
+    if (p->number) return p->number == 10 && untouched(out, DATA) && untouched(symbols, SYMBOLS);
+    return !memcmp(out, data, DATA) && !entry_commit_page(symbols, SYMBOLS, committed, DATA).number && !memcmp(committed, data, DATA);
+}
+
+/* Point 12 of document 02, right but weak readings. That no column is spent has to be asked: with limits that suffice for sure readings, pages with erased columns and refused ones are met as well. */
 static tally check_clean(void) {
     static const char *const modes[] = {"super", "whole"};
     static const uint64_t limits[] = {1, 29, 30, 60, 200, 500, 2000};
     static const int64_t thresholds[] = {-2000, 0, 2000};
-    uint8_t data[DATA], page[WRITTEN], soft[SOFT], out[DATA], symbols[SYMBOLS], committed[DATA];
+    uint8_t data[DATA], page[WRITTEN], soft[SOFT];
     unsigned long unharmed = 0, with_erased = 0, refused = 0;
     tally t = {0, 0, 0};
     uint64_t state = 20261117;
-    for (int n = 0; n < SURENESSES; n++) {
+    for (int mixture = 0; mixture < MIXTURES; mixture++) {
         write_page(&state, data, page);
         for (int k = 0; k < SOFT; k++) {
-            const int doubt = doubt_of(n % SURENESSES, k / BITS, drawn(&state));
+            const int doubt = doubt_of(mixture, k / BITS, drawn(&state));
             soft[k] = (uint8_t)(written_bit(page, k) ? 7 - doubt : doubt);
         }
         for (size_t l = 0; l < sizeof limits / sizeof limits[0]; l++)
-            for (int k = 0; k < 2; k++)
-                for (int c = -1; c < 3; c++, t.checked++) {
-                    const way w = c < 0 ? without_list(modes[k]) : with_list(modes[k], thresholds[c]);
-                    paged expected;
-                    memset(out, UNTOUCHED, DATA);
-                    memset(symbols, UNTOUCHED, SYMBOLS);
-                    const int right = clean_report(w, page, soft, limits[l], &expected);
-                    const paged p = decoded(w, soft, SOFT, limits[l], out, DATA), a = asked(w, soft, SOFT, limits[l], symbols, SYMBOLS);
-                    const int same = right && same_report(&p, &expected) && same_report(&a, &expected);
-                    const int back = !p.number && !memcmp(out, data, DATA) && !entry_commit_page(symbols, SYMBOLS, committed, DATA).number && !memcmp(committed, data, DATA);
-                    const int some_erased = p.erased[0] || p.erased[1] || p.erased[2] || p.erased[3];
-                    t.differ += !(same && (back || (p.number == 10 && untouched(out, DATA) && untouched(symbols, SYMBOLS))) && (c < 0 || (back && !p.steps && !some_erased)));
-                    if (c < 0) *(p.number ? &refused : some_erased ? &with_erased : &unharmed) += 1;
-                }
+            for (int k = 0; k < 2; k++) {
+                paged p;
+                for (int c = 0; c < 3; c++, t.checked++) t.differ += !clean_page_right(with_list(modes[k], thresholds[c]), mixture, data, page, soft, limits[l], &p);
+                t.differ += !clean_page_right(without_list(modes[k]), mixture, data, page, soft, limits[l], &p);
+                t.checked++;
+                if (limits[l] >= BITS) *(p.number ? &refused : p.erased[0] || p.erased[1] || p.erased[2] || p.erased[3] ? &with_erased : &unharmed) += 1;
+            }
     }
     t.differ += !unharmed + !with_erased + !refused;
-    printf("right but weak readings: %lu checked, %lu differ; without list of two %lu came back unharmed, %lu with erased columns, %lu were refused\n", t.checked, t.differ, unharmed, with_erased, refused);
+    printf("right but weak readings: %lu checked, %lu differ; without list of two, from limit 30 on, %lu came back unharmed, %lu with erased columns, %lu were refused\n", t.checked, t.differ, unharmed, with_erased, refused);
     return t;
 }
 

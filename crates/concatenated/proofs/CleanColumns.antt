@@ -3,7 +3,7 @@ use mathlib.Core.Bool.{Bool, true, false, cond}
 use mathlib.Core.List.{List, [], _∷_}
 use mathlib.Core.Logic.{_⊎_, inl, inr, ⊎-elim}
 use mathlib.Core.Path.{_≡_, refl, sym, ap, ap₂, _∙_, subst, subst⁻¹}
-use Prim.Native.Nat.{ℕ, zero, suc, _-_, _≤_, _<_}
+use Prim.Native.Nat.{ℕ, zero, suc, _≤_, _<_}
 use native.Mathlib.Decide.{decLe}
 use native.Mathlib.Omega.{arith}
 use lib.Dec.{eqb, ltb}
@@ -133,7 +133,7 @@ module _ (vs : Values) (above : AgreeingIsAbove vs) (c : List ℕ) where
 module _ (S : Shape) (searchable : (i : ℕ) → i < levels S → Searchable S i) (vs : ℕ → Values) (limit : ℕ) (kind : Kind) where
   -- both searches find the reading of a column that reads as a codeword, if they are not spent
   searches-find-the-reading : ((i : ℕ) → AgreeingIsAbove (vs i)) → FindsTheReading S (readerOf off kind S vs limit)
-  searches-find-the-reading above i h c x n soft word e =
+  searches-find-the-reading above i h c x n word e =
       let code = reading-is-a-codeword S i c (word .0) (word .1) in
       let hard : Path = hardPath c (S .bits) in
       let best = codeword-read-is-ahead-of-all (vs i) (above i) c S i hard (searchable i h .some-bits) (code .1) (hard-path-reads (vs i) (above i) c (S .bits)) in

@@ -19,7 +19,7 @@ use Rattle.concatenated.specs.Lists.{All, sum, total, listed}
 use Rattle.concatenated.specs.Format.{Format, SoundFormat, dataLength}
 use Rattle.concatenated.specs.Outer.{RowDecoder, RowEncoder, OuterLaws}
 use Rattle.concatenated.specs.SoftPage.{Soft, hardReading, columnOff}
-use Rattle.concatenated.specs.Decode.{Reading, found, spent, Reader, mark, marks, count, steps, rowOff, changed, Level, level, going, answered, run, Reaches, AtEveryLevel, outcome, decoded, rows}
+use Rattle.concatenated.specs.Decode.{Reading, found, spent, Reader, mark, marks, count, steps, rowOff, changed, Level, level, going, answered, run, Reaches, AtEveryLevel, outcome, decoded}
 use Rattle.concatenated.specs.Written.{writtenRows, columnSymbols, columnsOf, rowAt, writtenSum, bytesOfRows}
 use Rattle.concatenated.specs.Misread.{otherThan, othersThan, misread}
 use Rattle.concatenated.specs.Readers.{AllRead}
@@ -46,7 +46,7 @@ no-steps read (c ∷ cs) h = rw (h .0 .1) (omega (arith, no-steps read cs (h .1)
 
 -- who takes a column as it reads finds its reading
 pub taking-is-finding : (S : Shape) (read : Reader) → TakesTheReading S read → FindsTheReading S read
-taking-is-finding S read takes i h c w n soft word e =
+taking-is-finding S read takes i h c w n word e =
     let t = takes i h c word in
     ap (λ (x : WordFound). x .column) (found-inj w (t .0) n 0 (sym e ∙ t .2) .0) ∙ t .1
 
@@ -116,16 +116,16 @@ module _ (S : Shape) (ok : Sound S) where
       right (spent n) f = ap (otherThan (writtenSum S i s)) f
       right (found v n) f =
           let word = column-reads-as-a-word i c s h (soft .0) (range .0) (e .0) in
-          ap (otherThan (writtenSum S i s)) f ∙ ap not (eq-eqb (v .column) (writtenSum S i s) (finds i h c v n (soft .0 .1) word f ∙ e .0))
+          ap (otherThan (writtenSum S i s)) f ∙ ap not (eq-eqb (v .column) (writtenSum S i s) (finds i h c v n word f ∙ e .0))
 
   module _ (ws page : List (List ℕ)) (soft : All SoftColumn page) (range : All InRange ws) (clean : ReadsAs S 0 page ws) where
-    pub cleared-soft : (i : ℕ) → All SoftColumn (cleared S ws page i)
+    cleared-soft : (i : ℕ) → All SoftColumn (cleared S ws page i)
     unfolding cleared
     cleared-soft zero = soft
     cleared-soft (suc i) = row-off-all S SoftColumn stays-a-soft-column i (rowAt i ws) (cleared S ws page i) (cleared-soft i)
 
     -- the columns with the written words of the lower levels taken off read as the sums of the others
-    pub cleared-reads : (i : ℕ) → i ≤ levels S → ReadsAs S i (cleared S ws page i) ws
+    cleared-reads : (i : ℕ) → i ≤ levels S → ReadsAs S i (cleared S ws page i) ws
     unfolding cleared
     cleared-reads zero h = clean
     cleared-reads (suc i) h = let k : i < levels S = omega arith in reads-on i k (cleared S ws page i) ws (cleared-soft i) range (cleared-reads i (omega arith))
@@ -215,12 +215,12 @@ module _ (P : Format) (ok : SoundFormat P) (outer : RowDecoder) (encoded : RowEn
       }
 
       -- the steps are those of reading these columns
-      pub clean-page-steps : clean-page-comes-back .unchanged .steps ≡ writtenSteps T read ws page (levels T)
+      clean-page-steps : clean-page-comes-back .unchanged .steps ≡ writtenSteps T read ws page (levels T)
       unfolding clean-page-comes-back unchanged
       clean-page-steps = refl
 
       -- at every level that the decoder comes to, each column reads as a word of the level
-      pub every-column-reads-as-a-word : AtEveryLevel T outer read page (λ i cs. All (ReadsAsAWord T i) cs)
+      every-column-reads-as-a-word : AtEveryLevel T outer read page (λ i cs. All (ReadsAsAWord T i) cs)
       every-column-reads-as-a-word i h cs there =
           subst (All (ReadsAsAWord T i)) (going-inj (at i) cs _ (there .0) _ (there .1) (sym (comes i (omega arith)) ∙ there .2) .0) (words-at i h)
 

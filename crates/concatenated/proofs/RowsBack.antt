@@ -28,7 +28,7 @@ unfolding run onward settle
 level-with-row S outer read page i cs ls n r e o = ap (onward S outer read i) e ∙ ap (settle S outer i cs (map (read i) cs) ls n) o
 
 -- and one that has no row
-pub level-without-row : (S : Shape) (outer : RowDecoder) (read : Reader) (page : List (List ℕ)) (i : ℕ) (cs : List (List ℕ)) (ls : List Level) (n : ℕ)
+level-without-row : (S : Shape) (outer : RowDecoder) (read : Reader) (page : List (List ℕ)) (i : ℕ) (cs : List (List ℕ)) (ls : List Level) (n : ℕ)
     → run S outer read page i ≡ going cs ls n → decodedRow S outer i (map (read i) cs) ≡ NoneInReach → run S outer read page (suc i) ≡ stopped i
 unfolding run onward settle
 level-without-row S outer read page i cs ls n e o = ap (onward S outer read i) e ∙ ap (settle S outer i cs (map (read i) cs) ls n) o
@@ -137,7 +137,7 @@ module _ (P : Format) (outer : RowDecoder) (encoded : RowEncoder) (Codeword : �
           inr (i, record { level-exists = below; comes-there = before; too-many = more; stops = level-without-row S outer read page i _ _ _ before (no-row-with-too-many-unread i below more) })
 
   -- what is answered, with sets and steps
-  pub answer-is-written : TrueWithinReach → decoded S outer read page ≡ answered (listed (writtenLevel S read ws page) (levels S)) (writtenSteps S read ws page (levels S))
+  answer-is-written : TrueWithinReach → decoded S outer read page ≡ answered (listed (writtenLevel S read ws page) (levels S)) (writtenSteps S read ws page (levels S))
   unfolding decoded outcome
   answer-is-written within = ap outcome (comes-to within (levels S) (omega arith))
 

@@ -15,7 +15,7 @@ use Rattle.reedsolomon.specs.Search.{WordOf}
 use Rattle.concatenated.specs.Lists.{All, listed}
 use Rattle.concatenated.specs.Format.{Format}
 use Rattle.concatenated.specs.Symbols.{rowAfterRow, rowIn, rowsIn, RowTest, lowestNoWord, LowestNoWord}
-use Rattle.concatenated.proofs.Lists.{all-at, all-by-entries, listed-length, listed-at}
+use Rattle.concatenated.proofs.Lists.{all-by-entries, listed-length, listed-at}
 use Rattle.concatenated.proofs.Digits.{Below, below-is-word, word-is-below}
 use Rattle.concatenated.proofs.Groups.{flat-more, flat-all, flat-length, flat-part}
 

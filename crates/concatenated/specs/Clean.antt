@@ -16,7 +16,7 @@ use Rattle.packing.specs.Packing.{joined, digit}
 use Rattle.concatenated.specs.Lists.{All, Pairs, total}
 use Rattle.concatenated.specs.Format.{Format}
 use Rattle.concatenated.specs.Outer.{RowDecoder, RowEncoder}
-use Rattle.concatenated.specs.SoftPage.{Soft, hardReading}
+use Rattle.concatenated.specs.SoftPage.{hardReading}
 use Rattle.concatenated.specs.Decode.{found, Reader, Level, PageAnswer, answered, refused, rows, Reaches, AtEveryLevel}
 use Rattle.concatenated.specs.Written.{writtenRows, writtenSum, bytesOfRows}
 use Rattle.concatenated.specs.Misread.{unread}
@@ -71,9 +71,9 @@ NoSearchMade S outer vs threshold kind limit page =
 abbrev pub ReadsAs : Shape → ℕ → List (List ℕ) → List (List ℕ) → Type 0
 ReadsAs S i cs ws = Pairs (λ c s. hardReading c ≡ writtenSum S i s) cs ws
 
--- a soft column that reads as a word of the level is found to be this word, if its search is not spent
+-- a column that reads as a word of the level is found to be this word, if its search is not spent
 abbrev pub FindsTheReading : Shape → Reader → Type 0
-FindsTheReading S read = (i : ℕ) → i < levels S → (c : List ℕ) (w : WordFound) (n : ℕ) → Soft c → ReadsAsAWord S i c → read i c ≡ found w n → w .column ≡ hardReading c
+FindsTheReading S read = (i : ℕ) → i < levels S → (c : List ℕ) (w : WordFound) (n : ℕ) → ReadsAsAWord S i c → read i c ≡ found w n → w .column ≡ hardReading c
 
 -- it is found to be this word without a step
 abbrev pub TakesTheReading : Shape → Reader → Type 0

@@ -28,10 +28,9 @@ use Rattle.page.specs.declared.PageOutcome.{PageOutcome}
 use Rattle.questions.specs.Questions.{ask, firstAbove}
 use Rattle.questions.specs.declared.Outcome.{Outcome}
 use Rattle.questions.specs.declared.Outcome.the-variants.{Done, Refused}
-use Rattle.questions.proofs.AllInRange.{no-value-above}
 use Rattle.questions.proofs.EitherWay.{by-answer, either, first-bad, asked-done}
 use Rattle.store_pages.specs.Pages.{askPage, decodedPage, PageFilled}
-use Rattle.store_pages.proofs.SoftValues.{values-are-soft}
+use Rattle.store_pages.proofs.SoftValues.{values-are-soft, none-above-7}
 
 -- a refusal of a number 1..11 and a place up to 1890
 abbrev pub Refusals : {A : Type 0} → (A → Type 0) → (ℕ → ℕ → A) → Type 0
@@ -105,7 +104,7 @@ module _ (choice : Choice) (soft : List ℕ) (limit : ℕ) (room : Bool) where
 pub accepted : (soft : List ℕ) → Values 1890 7 soft → (limit : ℕ) → 1 ≤ limit → limit ≤ 2000 → (choice : Choice) → thresholdAllowed choice ≡ true → (places : ℕ) (old : List ℕ) → length old ≡ places
     → (A : Type 0) (refusal : ℕ → ℕ → A) (next : A) → next ≡ askPage choice soft limit (eqb (length old) places) refusal next
 accepted soft values-soft limit some at-most choice in-range places old room =
-    all-yes choice soft limit (eqb (length old) places) (values-soft .size) (eq-eqb _ _ room) some at-most in-range (leb-true 1890 (firstAbove soft 7) (no-value-above soft 1890 7 (values-soft .size) (values-soft .range)))
+    all-yes choice soft limit (eqb (length old) places) (values-soft .size) (eq-eqb _ _ room) some at-most in-range (none-above-7 soft values-soft)
 
 -- so a call that gives the refusal and keeps the buffer, or what the page's answer gives, gives what is due
 module _ (B : Buffer) (choice : Choice) (s : Search) (soft : List ℕ) (limit : ℕ) (old : List ℕ) where

@@ -5,7 +5,6 @@ use mathlib.Core.Logic.{_⊎_, inl, inr, ⊎-elim}
 use mathlib.Core.Path.{_≡_, refl, sym, ap, ap₂, _∙_, subst, subst⁻¹}
 use Prim.Native.Nat.{ℕ, _*_, _≤_, _<_}
 use native.Mathlib.Omega.{arith}
-use borrow.Author.Tests.{leb-true}
 use lib.IntN.{ℤ}
 use lib.ListN.{length, length-map, getD, replicate}
 use Rattle.column.specs.Shape.{short}
@@ -16,7 +15,7 @@ use Rattle.trellis.specs.Demand.{Search}
 use Rattle.trellis.specs.TwoWords.{Choice, off, on, thresholdAllowed}
 use Rattle.concatenated.specs.Lists.{All, total}
 use Rattle.concatenated.specs.Format.{shortPage}
-use Rattle.concatenated.specs.SoftPage.{Soft, softColumns}
+use Rattle.concatenated.specs.SoftPage.{softColumns}
 use Rattle.concatenated.specs.Decode.{Level, PageAnswer, rows, pageLow}
 use Rattle.concatenated.specs.Marks.{markOf, changedMarks, erasedMarks}
 use Rattle.concatenated.specs.Written.{writtenRow, writtenRows, bytesOfRows}
@@ -34,24 +33,25 @@ use Rattle.concatenated.proofs.Short as Short
 use Rattle.page.specs.Outcomes.{noColumns, reportOf, refusedPage, outcomeOf, Buffer, dataBuffer, symbolBuffer, filled}
 use Rattle.page.specs.declared.PageOutcome.{PageOutcome}
 use Rattle.page.specs.declared.Report.{Report}
-use Rattle.questions.specs.Questions.{firstAbove}
 use Rattle.questions.specs.Outcome.{after}
 use Rattle.questions.specs.declared.Outcome.{Outcome}
 use Rattle.questions.specs.declared.Outcome.the-variants.{Done}
-use Rattle.questions.proofs.AllInRange.{no-value-above}
 use Rattle.store_pages.specs.Pages.{decodedPage, PageFilled, PageDecoded, PageAsked, ListDecoded, ListAsked}
 use Rattle.store_pages.specs.Committing.{heldBytes, Committed, FourWords}
 use Rattle.store_pages.specs.CleanPages.{RightReadings, writtenSymbols, CameBackUnharmed, CameBackUnchanged, RefusedForUnread}
-use Rattle.store_pages.proofs.SoftValues.{values-are-soft}
+use Rattle.store_pages.proofs.SoftValues.{page-is-soft}
 use Rattle.store_pages.proofs.Asked.{accepted}
 use Rattle.store_pages.proofs.Committing.{commit-accepts-exactly}
 
+abbrev written : List ℕ → List (List ℕ)
+written = writtenRows shortPage shortEncoder
+
 -- ---- reports
 
-module _ (bytes : List ℕ) (ls : List Level) (written : rows ls ≡ writtenRows shortPage shortEncoder bytes) where
+module _ (bytes : List ℕ) (ls : List Level) (same : rows ls ≡ written bytes) where
   four-zeros : replicate {A = ℕ} (length ls) 0 ≡ replicate 4 0
   unfolding rows writtenRows
-  four-zeros = ap (λ (n : ℕ). replicate {A = ℕ} n 0) (sym (length-map ls (λ l. l .symbols)) ∙ ap length written ∙ listed-length (writtenRow shortPage shortEncoder bytes) 4)
+  four-zeros = ap (λ (n : ℕ). replicate {A = ℕ} n 0) (sym (length-map ls (λ l. l .symbols)) ∙ ap length same ∙ listed-length (writtenRow shortPage shortEncoder bytes) 4)
 
   none-in : (f : Level → List Bool) → All (λ l. total (f l) ≡ 0) ls → (map (λ l. total (f l)) ls ≡ replicate 4 0) × (map (λ l. markOf (f l)) ls ≡ replicate 4 0)
   none-in f none = let zeros = none-at-any-level f ls none in (zeros .0 ∙ four-zeros, zeros .1 ∙ four-zeros)
@@ -64,28 +64,35 @@ module _ (bytes : List ℕ) (ls : List Level) (written : rows ls ≡ writtenRows
       ap₂ (λ cs es. record { steps = n; changed = cs; erased = es; «changed_marks» = changedMarks ls; «erased_marks» = erasedMarks ls; low = pageLow ls }) (c .0) (e .0)
       ∙ ap₂ (λ cs es. record { steps = n; changed = replicate 4 0; erased = replicate 4 0; «changed_marks» = cs; «erased_marks» = es; low = pageLow ls }) (c .1) (e .1)
 
+-- what came back unharmed came back unchanged
+pub unharmed-is-unchanged : (contents : List ℕ) (r : PageOutcome) (new : List ℕ) → CameBackUnharmed contents r new → CameBackUnchanged contents r new
+unharmed-is-unchanged contents r new back = record {
+  number = ap (λ (o : PageOutcome). o .number) (back .outcome);
+  place = ap (λ (o : PageOutcome). o .place) (back .outcome);
+  changed = ap (λ (o : PageOutcome). o .report .changed) (back .outcome);
+  changed-marks = ap (λ (o : PageOutcome). o .report .«changed_marks») (back .outcome);
+  holds = back .holds;
+}
+
 -- ---- the written rows, in the buffers of the calls
 
 module _ (bytes : List ℕ) (are-bytes : Values 150 255 bytes) where
-  abbrev writtenAs : List (List ℕ)
-  writtenAs = writtenRows shortPage shortEncoder bytes
-
   below-256 : Below 256 bytes
   below-256 = all-by-entries (λ d. d < 256) bytes 0 (λ j l. omega (arith, are-bytes .range j (omega (arith, are-bytes .size, l))))
 
-  written-rows-pack-to-the-data : bytesOfRows shortPage writtenAs ≡ bytes
+  written-rows-pack-to-the-data : bytesOfRows shortPage (written bytes) ≡ bytes
   written-rows-pack-to-the-data = written-rows-hold-the-data shortPage Short.short-page-sound shortOuter shortEncoder ShortCodeword outer-laws bytes (are-bytes .size) below-256
 
   -- the symbols that asking fills in for a clean page are taken by committing, which writes the data
   pub written-symbols-commit-to-the-data : (kept : List ℕ) (committed : Outcome) (new : List ℕ) → length kept ≡ 150 → Committed (writtenSymbols bytes) kept committed new → (committed ≡ Done) × (new ≡ bytes)
   unfolding writtenRows
   written-symbols-commit-to-the-data kept committed new room commit =
-      let many : length writtenAs ≡ 4 = listed-length (writtenRow shortPage shortEncoder bytes) 4 in
-      let word : (i : ℕ) → i < length writtenAs → WordOf 64 63 (getD writtenAs i []) = λ i h.
+      let many : length (written bytes) ≡ 4 = listed-length (writtenRow shortPage shortEncoder bytes) 4 in
+      let word : (i : ℕ) → i < length (written bytes) → WordOf 64 63 (getD (written bytes) i []) = λ i h.
       subst⁻¹ (WordOf 64 63) (row-listed shortPage Short.short-page-sound shortOuter shortEncoder ShortCodeword outer-laws bytes i (omega (arith, many, h)))
       (written-row-is-a-word shortPage Short.short-page-sound shortOuter shortEncoder ShortCodeword outer-laws bytes i (omega (arith, many, h))) in
-      let all = row-after-row-is-a-word 64 63 writtenAs word in
-      let rows-back : rowsIn shortPage (writtenSymbols bytes) ≡ writtenAs = rows-are-in-their-places shortPage writtenAs many (all .0) in
+      let all = row-after-row-is-a-word 64 63 (written bytes) word in
+      let rows-back : rowsIn shortPage (writtenSymbols bytes) ≡ (written bytes) = rows-are-in-their-places shortPage (written bytes) many (all .0) in
       let four : FourWords (writtenSymbols bytes) = record {
         long = all .1 .0 ∙ ap (λ (n : ℕ). n * 63) many;
         words = λ i h.
@@ -99,12 +106,6 @@ module _ (bytes : List ℕ) (are-bytes : Values 150 255 bytes) where
 -- ---- the calls
 
 module _ (bytes soft : List ℕ) (right : RightReadings bytes soft) (limit : ℕ) (some : 1 ≤ limit) (at-most : limit ≤ 2000) (s : Search) where
-  are-soft : Soft soft
-  are-soft = values-are-soft soft (omega (arith, right .are-values .size, leb-true 1890 (firstAbove soft 7) (no-value-above soft 1890 7 (right .are-values .size) (right .are-values .range))))
-
-  abbrev written : List (List ℕ)
-  written = writtenRows shortPage shortEncoder bytes
-
   -- a call of either kind whose buffer has its places
   module _ (B : Buffer) (choice : Choice) (in-range : thresholdAllowed choice ≡ true) (old : List ℕ) (room : length old ≡ B .places) (r : PageOutcome) (new : List ℕ) (call : PageFilled B choice s soft limit old r new) where
     abbrev page : PageAnswer
@@ -120,11 +121,11 @@ module _ (bytes soft : List ℕ) (right : RightReadings bytes soft) (limit : ℕ
     unfolding outcomeOf
     reports back = gives ∙ ap outcomeOf (back .answered-so)
 
-    holds-the-rows : BackUnchanged shortPage shortEncoder bytes page → new ≡ B .made written
+    holds-the-rows : BackUnchanged shortPage shortEncoder bytes page → new ≡ B .made (written bytes)
     unfolding filled
     holds-the-rows back = leaves ∙ ap (filled B old) (back .answered-so) ∙ ap (B .made) (back .rows-are-written)
 
-    came-back-unchanged : BackUnchanged shortPage shortEncoder bytes page → CameBackUnchanged (B .made written) r new
+    came-back-unchanged : BackUnchanged shortPage shortEncoder bytes page → CameBackUnchanged (B .made (written bytes)) r new
     came-back-unchanged back =
         let e = reports back in
         let none = none-in bytes (back .levels) (back .rows-are-written) (λ l. l .changed) (back .none-changed) in
@@ -136,7 +137,7 @@ module _ (bytes soft : List ℕ) (right : RightReadings bytes soft) (limit : ℕ
           holds = holds-the-rows back;
         }
 
-    came-back-unharmed : (back : BackUnharmed shortPage shortEncoder bytes page) → CameBackUnharmed (B .made written) r new × (r .report .steps ≡ back .unchanged .steps)
+    came-back-unharmed : (back : BackUnharmed shortPage shortEncoder bytes page) → CameBackUnharmed (B .made (written bytes)) r new × (r .report .steps ≡ back .unchanged .steps)
     came-back-unharmed back =
         let u = back .unchanged in
         let e = reports u ∙ ap (λ (x : Report). record { number = 0; place = 0; report = x }) (no-columns-reported bytes (u .levels) (u .rows-are-written) (u .steps) (u .none-changed) (back .none-erased)) in
@@ -147,19 +148,19 @@ module _ (bytes soft : List ℕ) (right : RightReadings bytes soft) (limit : ℕ
     refused-for-unread many = record { unread = many; outcome = gives ∙ ap outcomeOf (many .refused-there); holds = leaves ∙ ap (filled B old) (many .refused-there) }
 
     -- whatever is spent: no column changed, or refused for unread columns
-    never-misled : CameBackUnchanged (B .made written) r new ⊎ RefusedForUnread choice s soft limit old r new
+    never-misled : CameBackUnchanged (B .made (written bytes)) r new ⊎ RefusedForUnread choice s soft limit old r new
     never-misled =
         ⊎-elim (λ back. inl (came-back-unchanged back)) (λ many. inr (refused-for-unread many))
-        (Short.clean-page-comes-back-or-is-refused shortOuter shortEncoder ShortCodeword outer-laws bytes (right .are-bytes .size) (below-256 bytes (right .are-bytes)) soft (right .are-values .size) are-soft (right .read-as-written) s limit choice)
+        (Short.clean-page-comes-back-or-is-refused shortOuter shortEncoder ShortCodeword outer-laws bytes (right .are-bytes .size) (below-256 bytes (right .are-bytes)) soft (right .are-values .size) (page-is-soft soft (right .are-values)) (right .read-as-written) s limit choice)
 
   -- decoding leaves the data, asking the written symbols
-  data-held : (r : PageOutcome) (new : List ℕ) → CameBackUnharmed (dataBuffer .made written) r new → CameBackUnharmed bytes r new
+  data-held : (r : PageOutcome) (new : List ℕ) → CameBackUnharmed (dataBuffer .made (written bytes)) r new → CameBackUnharmed bytes r new
   data-held r new = subst (λ (x : List ℕ). CameBackUnharmed x r new) (written-rows-pack-to-the-data bytes (right .are-bytes))
 
   -- "if each soft value reads as the written bit, at any sureness, and no column is spent, the data comes back with no column changed", and none erased
   module _ (all-read : NoColumnSpent short shortOuter (shortReader off s limit) (softColumns shortPage soft)) where
     unharmed : BackUnharmed shortPage shortEncoder bytes (decodedPage off s soft limit)
-    unharmed = Short.clean-page-comes-back shortOuter shortEncoder ShortCodeword outer-laws bytes (right .are-bytes .size) (below-256 bytes (right .are-bytes)) soft (right .are-values .size) are-soft (right .read-as-written) s limit all-read
+    unharmed = Short.clean-page-comes-back shortOuter shortEncoder ShortCodeword outer-laws bytes (right .are-bytes .size) (below-256 bytes (right .are-bytes)) soft (right .are-values .size) (page-is-soft soft (right .are-values)) (right .read-as-written) s limit all-read
 
     pub clean-page-comes-back-from-decoding : (old : List ℕ) → length old ≡ 150 → (r : PageOutcome) (new : List ℕ) → PageDecoded s soft limit old r new → CameBackUnharmed bytes r new
     clean-page-comes-back-from-decoding old room r new call = data-held r new (came-back-unharmed dataBuffer off refl old room r new call unharmed .0)
@@ -173,7 +174,7 @@ module _ (bytes soft : List ℕ) (right : RightReadings bytes soft) (limit : ℕ
     Unsearched = NoSearchMade short shortOuter levelValues threshold s limit (softColumns shortPage soft)
 
     unsearched : (back : BackUnharmed shortPage shortEncoder bytes (decodedPage (on threshold) s soft limit)) × (back .unchanged .steps ≡ 0) × Unsearched
-    unsearched = Short.clean-page-comes-back-unsearched shortOuter shortEncoder ShortCodeword outer-laws bytes (right .are-bytes .size) (below-256 bytes (right .are-bytes)) soft (right .are-values .size) are-soft (right .read-as-written) s limit threshold
+    unsearched = Short.clean-page-comes-back-unsearched shortOuter shortEncoder ShortCodeword outer-laws bytes (right .are-bytes .size) (below-256 bytes (right .are-bytes)) soft (right .are-values .size) (page-is-soft soft (right .are-values)) (right .read-as-written) s limit threshold
 
     pub clean-page-comes-back-unsearched-from-decoding : (old : List ℕ) → length old ≡ 150 → (r : PageOutcome) (new : List ℕ) → ListDecoded threshold s soft limit old r new
         → CameBackUnharmed bytes r new × (r .report .steps ≡ 0) × Unsearched
