@@ -17,9 +17,9 @@ use Rattle.reedsolomon.specs.Row
 use Rattle.concatenated.specs.Lists.{total}
 use Rattle.concatenated.specs.Format.{Format}
 use Rattle.concatenated.specs.Outer.{RowDecoder, RowEncoder, isIn, OuterLaws}
-use Rattle.concatenated.specs.Decode.{Reader, mark, marks, symbol, symbols, rowOff, Level, level, State, going, stopped, answered, refused, decodedRow, settle, onward, run, Reaches, outcome, decoded, rows}
+use Rattle.concatenated.specs.Decode.{Reader, marks, symbols, rowOff, Level, level, State, going, stopped, answered, refused, decodedRow, settle, onward, run, Reaches, outcome, decoded, rows}
 use Rattle.concatenated.proofs.Counting.{changed-total-is-e, erased-total-is-s}
-use Rattle.concatenated.proofs.Columns.{row-off-length}
+use Rattle.concatenated.proofs.Columns.{row-off-length, symbols-and-marks-length}
 use Rattle.concatenated.proofs.Entries.{changed-length, erased-is-not-changed}
 
 stopped-is-not-going : {X : Type 0} (l : ℕ) (cs : List (List ℕ)) (ls : List Level) (n : ℕ) → stopped l ≡ going cs ls n → X
@@ -97,11 +97,6 @@ module _ (P : Format) (outer : RowDecoder) (encoded : RowEncoder) (Codeword : �
   abbrev S : Shape
   S = P .shape
 
-  -- the columns of a level, its symbols and its marks
-  columns-long : (i : ℕ) (cs : List (List ℕ)) → length cs ≡ P .columns → (length (symbols S i (map (read i) cs)) ≡ P .columns) × (length (marks (map (read i) cs)) ≡ P .columns)
-  columns-long i cs e =
-      (length-map (map (read i) cs) (symbol S i) ∙ length-map cs (read i) ∙ e, length-map (map (read i) cs) mark ∙ length-map cs (read i) ∙ e)
-
   abbrev AllColumns : ℕ → Type 0
   AllColumns k = (cs : List (List ℕ)) → Reaches S outer read page k cs → length cs ≡ P .columns
 
@@ -116,7 +111,7 @@ module _ (P : Format) (outer : RowDecoder) (encoded : RowEncoder) (Codeword : �
       after all ds ks m to NoneInReach o f = stopped-is-not-going k cs (at .0) (at .1) f
       after all ds ks m to (Found r) o f =
           let before-all : length ds ≡ P .columns = all ds (ks, m, to) in
-          let long = columns-long k ds before-all in
+          let long = symbols-and-marks-length S read (P .columns) k ds before-all in
           let code = laws .given k (symbols S k (map (read k) ds)) (marks (map (read k) ds)) r (omega arith) (long .0) (long .1) o .0 in
           ap length (sym (going-inj (rowOff S k r ds) cs _ (at .0) _ (at .1) f .0)) ∙ row-off-length S k r ds (laws .word k r (omega arith) code .0 ∙ sym before-all) ∙ before-all
 
@@ -148,7 +143,7 @@ module _ (P : Format) (outer : RowDecoder) (encoded : RowEncoder) (Codeword : �
   -- the symbols, the marks and the row of a level are as many as the columns
   module _ (i : ℕ) (l : Level) (h : i < levels S) (of : LevelOf S outer read page i l) where
     entered : (length (symbols S i (map (read i) (of .columns))) ≡ P .columns) × (length (marks (map (read i) (of .columns))) ≡ P .columns)
-    entered = columns-long i (of .columns) (reached-columns-are-all i (omega arith) (of .columns) (of .reached))
+    entered = symbols-and-marks-length S read (P .columns) i (of .columns) (reached-columns-are-all i (omega arith) (of .columns) (of .reached))
 
     in-rule : Codeword i (l .symbols) × InReach ℕ-discrete (erasedOf i of) (P .columns) (P .roots i) (symbolsOf i of) (Row.symbol (l .symbols))
     unfolding decodedRow

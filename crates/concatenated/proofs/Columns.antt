@@ -1,6 +1,6 @@
 -- Laws of the columns of a page, side by side with the written ones. Assumes nothing.
 use mathlib.Core.Bool.{Bool, true, false, cond, not}
-use mathlib.Core.List.{List, [], _∷_, _++_}
+use mathlib.Core.List.{List, [], _∷_, _++_, map}
 use mathlib.Core.Path.{_≡_, refl, sym, ap, _∙_}
 use Prim.Native.Nat.{ℕ, zero, suc, _≤_}
 use native.Mathlib.Omega.{arith}
@@ -11,7 +11,7 @@ use Rattle.column.specs.Shape.{Shape}
 use Rattle.column.specs.Level.{levelWord, reimaged}
 use Rattle.concatenated.specs.Lists.{All, total}
 use Rattle.concatenated.specs.SoftPage.{columnOff}
-use Rattle.concatenated.specs.Decode.{Reading, found, spent, mark, marks, symbol, symbols, changed, rowOff, Level, rows}
+use Rattle.concatenated.specs.Decode.{Reading, found, spent, Reader, mark, marks, symbol, symbols, changed, rowOff, Level, rows}
 use Rattle.concatenated.specs.Written.{rowAt, writtenSum}
 use Rattle.concatenated.specs.Misread.{otherThan, othersThan, misread}
 use Rattle.concatenated.proofs.Counting.{at-most-one}
@@ -49,6 +49,11 @@ unfolding cleared
 cleared-length S ws page e zero = refl
 cleared-length S ws page e (suc i) =
     row-off-length S i (rowAt i ws) (cleared S ws page i) (row-length i ws ∙ e ∙ sym (cleared-length S ws page e i)) ∙ cleared-length S ws page e i
+
+-- a level's symbols and marks are as many as its columns
+pub symbols-and-marks-length : (S : Shape) (read : Reader) (N i : ℕ) (cs : List (List ℕ)) → length cs ≡ N → (length (symbols S i (map (read i) cs)) ≡ N) × (length (marks (map (read i) cs)) ≡ N)
+symbols-and-marks-length S read N i cs e =
+    (length-map (map (read i) cs) (symbol S i) ∙ length-map cs (read i) ∙ e, length-map (map (read i) cs) mark ∙ length-map cs (read i) ∙ e)
 
 -- the unerased columns whose symbol is not the written one are among the misread ones
 pub altered-columns-are-misread : (S : Shape) (i : ℕ) (rs : List Reading) (ws : List (List ℕ)) → All (λ s. reimaged S i (writtenSum S i s) ≡ getD s i 0) ws

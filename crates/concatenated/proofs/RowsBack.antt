@@ -5,7 +5,7 @@ use mathlib.Core.Path.{_≡_, refl, sym, ap, _∙_}
 use Prim.Native.Nat.{ℕ, zero, suc, _+_, _≤_, _<_}
 use native.Mathlib.Decide.{decLe}
 use native.Mathlib.Omega.{arith}
-use lib.ListN.{length, length-map, getD}
+use lib.ListN.{length, getD}
 use Rattle.column.specs.Shape.{Shape, levels}
 use Rattle.column.specs.Level.{reimaged}
 use Rattle.reedsolomon.specs.Words.{count, InReach}
@@ -13,12 +13,12 @@ use Rattle.reedsolomon.specs.Search.{OuterAnswer, Found, NoneInReach}
 use Rattle.concatenated.specs.Lists.{All, total, listed}
 use Rattle.concatenated.specs.Format.{Format}
 use Rattle.concatenated.specs.Outer.{RowDecoder, RowEncoder, isIn, OuterLaws}
-use Rattle.concatenated.specs.Decode.{Reading, Reader, mark, marks, symbol, symbols, steps, rowOff, Level, level, going, stopped, answered, decodedRow, settle, onward, run, Reaches, outcome, decoded, rows}
+use Rattle.concatenated.specs.Decode.{Reading, Reader, marks, symbols, steps, rowOff, Level, level, going, stopped, answered, decodedRow, settle, onward, run, Reaches, outcome, decoded, rows}
 use Rattle.concatenated.specs.Written.{rowAt, writtenSum}
 use Rattle.concatenated.specs.Misread.{unread, LevelWithinReach, WithinReach}
 use Rattle.concatenated.proofs.Lists.{all-map}
 use Rattle.concatenated.proofs.Counting.{erased-total-is-s, in-reach-by-totals}
-use Rattle.concatenated.proofs.Columns.{row-length, rows-more, cleared, cleared-length, altered-columns-are-misread}
+use Rattle.concatenated.proofs.Columns.{row-length, rows-more, cleared, cleared-length, symbols-and-marks-length, altered-columns-are-misread}
 
 -- a level whose row is known
 pub level-with-row : (S : Shape) (outer : RowDecoder) (read : Reader) (page : List (List ℕ)) (i : ℕ) (cs : List (List ℕ)) (ls : List Level) (n : ℕ) (r : List ℕ)
@@ -68,10 +68,7 @@ module _ (P : Format) (outer : RowDecoder) (encoded : RowEncoder) (Codeword : �
 
   -- the symbols and the marks that enter the row of such a level
   entered : (i : ℕ) → (length (symbols S i (readings S read ws page i)) ≡ P .columns) × (length (marks (readings S read ws page i)) ≡ P .columns)
-  entered i =
-      let rs = readings S read ws page i in
-      let long : length rs ≡ P .columns = length-map (cleared S ws page i) (read i) ∙ cleared-length S ws page (as-many ∙ sym wide) i ∙ wide in
-      (length-map rs (symbol S i) ∙ long, length-map rs mark ∙ long)
+  entered i = symbols-and-marks-length S read (P .columns) i (cleared S ws page i) (cleared-length S ws page (as-many ∙ sym wide) i ∙ wide)
 
   -- within reach the written row is given
   row-is-written : (i : ℕ) → i < levels S → LevelWithinReach P read ws i (cleared S ws page i) → decodedRow S outer i (readings S read ws page i) ≡ Found (rowAt i ws)

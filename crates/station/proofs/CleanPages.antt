@@ -12,8 +12,9 @@ use Rattle.trellis.specs.Demand.{supercode}
 use Rattle.trellis.specs.TwoWords.{Choice, on, thresholdAllowed}
 use Rattle.page.specs.Outcomes.{dataBuffer, symbolBuffer, Buffer}
 use Rattle.page.specs.declared.PageOutcome.{PageOutcome}
+use Rattle.store_pages.specs.Pages.{decodedPage}
 use Rattle.store_pages.specs.CleanPages.{RightReadings, writtenSymbols, CameBackUnchanged, RefusedForUnread}
-use Rattle.store_pages.proofs.CleanPages.{unharmed-is-unchanged, clean-page-comes-back-unsearched-from-decoding, right-readings-never-mislead-decoding, right-readings-never-mislead-asking}
+use Rattle.store_pages.proofs.CleanPages.{clean-page-comes-back-unsearched-from-decoding, right-readings-never-mislead-decoding, right-readings-never-mislead-asking}
 use Rattle.station.specs.Returned.{returned}
 use Rattle.station.specs.PageReturned.{pageAnswer, PageReturned, ListDecodedForC}
 use Rattle.station.specs.CleanPages.{ReturnedUnchanged, ReturnedUnsearched, ReturnedUnread}
@@ -31,9 +32,9 @@ module _ (bytes soft : List ℕ) (right : RightReadings bytes soft) (limit : ℕ
       abbrev due : PageOutcome
       due = pageAnswer B choice soft limit buffer report
 
-      returned-unchanged : CameBackUnchanged contents due newBuffer → ReturnedUnchanged contents r newBuffer newReport
+      returned-unchanged : CameBackUnchanged (decodedPage choice supercode soft limit) contents due newBuffer → ReturnedUnchanged contents r newBuffer newReport
       returned-unchanged back =
-          let success : r ≡ 0 = omega (arith, entry .answer, back .number, back .place) in
+          let success : r ≡ 0 = entry .answer ∙ ap (λ (o : PageOutcome). returned (o .number) (o .place)) (back .outcome) in
           let read = report-is-read-back B choice soft limit buffer report r newBuffer newReport entry success in
           record { success = success; holds = back .holds; none-changed = λ level h. (read .totals level h .0 ∙ zero-at _ level (back .changed) h, read .marks level h .0 ∙ zero-at _ level (back .changed-marks) h) }
 
@@ -47,7 +48,7 @@ module _ (bytes soft : List ℕ) (right : RightReadings bytes soft) (limit : ℕ
             same-report = entry .report-is ∙ simp (ne-eqb _ _ (λ (z : due .number ≡ 0). absurd (omega (arith, number, z))));
           }
 
-      never-misled : CameBackUnchanged contents due newBuffer ⊎ RefusedForUnread choice supercode soft limit buffer due newBuffer
+      never-misled : CameBackUnchanged (decodedPage choice supercode soft limit) contents due newBuffer ⊎ RefusedForUnread choice supercode soft limit buffer due newBuffer
           → ReturnedUnchanged contents r newBuffer newReport ⊎ ReturnedUnread choice soft limit buffer report r newBuffer newReport
       never-misled = ⊎-elim (λ back. inl (returned-unchanged back)) (λ refusal. inr (returned-unread refusal))
 
@@ -72,7 +73,7 @@ module _ (bytes soft : List ℕ) (right : RightReadings bytes soft) (limit : ℕ
       let call =
       clean-page-comes-back-unsearched-from-decoding bytes soft right limit some at-most supercode threshold in-range buffer full _ newBuffer (as-the-call dataBuffer (on threshold) soft limit buffer report r newBuffer newReport room entry) in
       let is = call .0 .outcome in
-      let unchanged = returned-unchanged (on threshold) in-range dataBuffer bytes entry (unharmed-is-unchanged bytes _ newBuffer (call .0)) in
+      let unchanged = returned-unchanged (on threshold) in-range dataBuffer bytes entry (call .0 .unchanged) in
       let read = report-is-read-back dataBuffer (on threshold) soft limit buffer report r newBuffer newReport entry (unchanged .success) in
       record {
         unchanged = unchanged;

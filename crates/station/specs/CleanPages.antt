@@ -13,7 +13,7 @@ use Rattle.store_pages.specs.Pages.{decodedPage}
 use Rattle.station.specs.Returned.{returned}
 use Rattle.station.specs.Report.{stepsIn, changedTotalIn, erasedTotalIn, changedMarkIn, erasedMarkIn}
 
--- the entry returned 0, left what the buffer is to hold, and reports no changed column at any level, by its total and its mark
+-- the entry returned 0, left what the buffer is to hold, and reports no changed column at any level, by its total and its mark; the rest of the report is that of `PageReturned`
 pub record ReturnedUnchanged (contents : List ℕ) (r : ℕ) (newBuffer newReport : List ℕ) : Type 0 where
   pub success : r ≡ 0
   pub holds : newBuffer ≡ contents

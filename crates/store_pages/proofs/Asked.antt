@@ -100,11 +100,14 @@ module _ (choice : Choice) (soft : List ℕ) (limit : ℕ) (room : Bool) where
   pub refusals-are-numbered : Numbered (askPage choice soft limit room Refused Done)
   refusals-are-numbered = every-way Numbered Refused Done (λ n p some few near. some) (λ most. tt)
 
--- the questions of a call with right values and limit, whose buffer has its places
-pub accepted : (soft : List ℕ) → Values 1890 7 soft → (limit : ℕ) → 1 ≤ limit → limit ≤ 2000 → (choice : Choice) → thresholdAllowed choice ≡ true → (places : ℕ) (old : List ℕ) → length old ≡ places
-    → (A : Type 0) (refusal : ℕ → ℕ → A) (next : A) → next ≡ askPage choice soft limit (eqb (length old) places) refusal next
-accepted soft values-soft limit some at-most choice in-range places old room =
-    all-yes choice soft limit (eqb (length old) places) (values-soft .size) (eq-eqb _ _ room) some at-most in-range (none-above-7 soft values-soft)
+-- a call with right values, limit and threshold, whose buffer has its places, gives what the page's answer makes
+module _ (B : Buffer) (choice : Choice) (s : Search) (soft : List ℕ) (limit : ℕ) (old : List ℕ) where
+  pub accepted-call : Values 1890 7 soft → 1 ≤ limit → limit ≤ 2000 → thresholdAllowed choice ≡ true → length old ≡ B .places → (r : PageOutcome) (new : List ℕ) → PageFilled B choice s soft limit old r new
+      → (r ≡ outcomeOf (decodedPage choice s soft limit)) × (new ≡ filled B old (decodedPage choice s soft limit))
+  accepted-call values-soft some at-most in-range room r new call =
+      let D = decodedPage choice s soft limit in
+      let asked = all-yes choice soft limit (eqb (length old) (B .places)) (values-soft .size) (eq-eqb _ _ room) some at-most in-range (none-above-7 soft values-soft) in
+      (call .answer ∙ sym (asked PageOutcome refusedPage (outcomeOf D)), call .bytes ∙ sym (asked (List ℕ) (λ n p. old) (filled B old D)))
 
 -- so a call that gives the refusal and keeps the buffer, or what the page's answer gives, gives what is due
 module _ (B : Buffer) (choice : Choice) (s : Search) (soft : List ℕ) (limit : ℕ) (old : List ℕ) where

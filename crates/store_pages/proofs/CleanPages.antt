@@ -30,7 +30,7 @@ use Rattle.concatenated.proofs.OuterJoint.{outer-laws}
 use Rattle.concatenated.proofs.Encoding.{row-listed, written-row-is-a-codeword, written-row-is-a-word, written-rows-hold-the-data}
 use Rattle.concatenated.proofs.Symbols.{row-after-row-is-a-word, rows-are-in-their-places, row-in-at}
 use Rattle.concatenated.proofs.Short as Short
-use Rattle.page.specs.Outcomes.{noColumns, reportOf, refusedPage, outcomeOf, Buffer, dataBuffer, symbolBuffer, filled}
+use Rattle.page.specs.Outcomes.{noColumns, reportOf, outcomeOf, Buffer, dataBuffer, symbolBuffer, filled}
 use Rattle.page.specs.declared.PageOutcome.{PageOutcome}
 use Rattle.page.specs.declared.Report.{Report}
 use Rattle.questions.specs.Outcome.{after}
@@ -40,7 +40,7 @@ use Rattle.store_pages.specs.Pages.{decodedPage, PageFilled, PageDecoded
 use Rattle.store_pages.specs.Committing.{heldBytes, Committed, FourWords}
 use Rattle.store_pages.specs.CleanPages.{RightReadings, writtenSymbols, CameBackUnharmed, CameBackUnchanged, RefusedForUnread}
 use Rattle.store_pages.proofs.SoftValues.{page-is-soft}
-use Rattle.store_pages.proofs.Asked.{accepted}
+use Rattle.store_pages.proofs.Asked.{accepted-call}
 use Rattle.store_pages.proofs.Committing.{commit-accepts-exactly}
 
 abbrev written : List ℕ → List (List ℕ)
@@ -63,16 +63,6 @@ module _ (bytes : List ℕ) (ls : List Level) (same : rows ls ≡ written bytes)
       let e = none-in (λ l. l .erased) unerased in
       ap₂ (λ cs es. record { steps = n; changed = cs; erased = es; «changed_marks» = changedMarks ls; «erased_marks» = erasedMarks ls; low = pageLow ls }) (c .0) (e .0)
       ∙ ap₂ (λ cs es. record { steps = n; changed = replicate 4 0; erased = replicate 4 0; «changed_marks» = cs; «erased_marks» = es; low = pageLow ls }) (c .1) (e .1)
-
--- what came back unharmed came back unchanged
-pub unharmed-is-unchanged : (contents : List ℕ) (r : PageOutcome) (new : List ℕ) → CameBackUnharmed contents r new → CameBackUnchanged contents r new
-unharmed-is-unchanged contents r new back = record {
-  number = ap (λ (o : PageOutcome). o .number) (back .outcome);
-  place = ap (λ (o : PageOutcome). o .place) (back .outcome);
-  changed = ap (λ (o : PageOutcome). o .report .changed) (back .outcome);
-  changed-marks = ap (λ (o : PageOutcome). o .report .«changed_marks») (back .outcome);
-  holds = back .holds;
-}
 
 -- ---- the written rows, in the buffers of the calls
 
@@ -111,61 +101,61 @@ module _ (bytes soft : List ℕ) (right : RightReadings bytes soft) (limit : ℕ
     abbrev page : PageAnswer
     page = decodedPage choice s soft limit
 
-    gives : r ≡ outcomeOf page
-    gives = call .answer ∙ sym (accepted soft (right .are-values) limit some at-most choice in-range (B .places) old room PageOutcome refusedPage (outcomeOf page))
-
-    leaves : new ≡ filled B old page
-    leaves = call .bytes ∙ sym (accepted soft (right .are-values) limit some at-most choice in-range (B .places) old room (List ℕ) (λ n p. old) (filled B old page))
+    made : (r ≡ outcomeOf page) × (new ≡ filled B old page)
+    made = accepted-call B choice s soft limit old (right .are-values) some at-most in-range room r new call
 
     reports : (back : BackUnchanged shortPage shortEncoder bytes page) → r ≡ record { number = 0; place = 0; report = reportOf (back .levels) (back .steps) }
     unfolding outcomeOf
-    reports back = gives ∙ ap outcomeOf (back .answered-so)
+    reports back = made .0 ∙ ap outcomeOf (back .answered-so)
 
     holds-the-rows : BackUnchanged shortPage shortEncoder bytes page → new ≡ B .made (written bytes)
     unfolding filled
-    holds-the-rows back = leaves ∙ ap (filled B old) (back .answered-so) ∙ ap (B .made) (back .rows-are-written)
+    holds-the-rows back = made .1 ∙ ap (filled B old) (back .answered-so) ∙ ap (B .made) (back .rows-are-written)
 
-    came-back-unchanged : BackUnchanged shortPage shortEncoder bytes page → CameBackUnchanged (B .made (written bytes)) r new
+    came-back-unchanged : BackUnchanged shortPage shortEncoder bytes page → CameBackUnchanged page (B .made (written bytes)) r new
     came-back-unchanged back =
         let e = reports back in
         let none = none-in bytes (back .levels) (back .rows-are-written) (λ l. l .changed) (back .none-changed) in
         record {
-          number = ap (λ (x : PageOutcome). x .number) e;
-          place = ap (λ (x : PageOutcome). x .place) e;
+          levels = back .levels;
+          steps = back .steps;
+          answered-so = back .answered-so;
+          outcome = e;
           changed = ap (λ (x : PageOutcome). x .report .changed) e ∙ none .0;
           changed-marks = ap (λ (x : PageOutcome). x .report .«changed_marks») e ∙ none .1;
           holds = holds-the-rows back;
         }
 
-    came-back-unharmed : (back : BackUnharmed shortPage shortEncoder bytes page) → CameBackUnharmed (B .made (written bytes)) r new × (r .report .steps ≡ back .unchanged .steps)
+    came-back-unharmed : (back : BackUnharmed shortPage shortEncoder bytes page) → CameBackUnharmed page (B .made (written bytes)) r new × (r .report .steps ≡ back .unchanged .steps)
+    unfolding came-back-unchanged
     came-back-unharmed back =
         let u = back .unchanged in
         let e = reports u ∙ ap (λ (x : Report). record { number = 0; place = 0; report = x }) (no-columns-reported bytes (u .levels) (u .rows-are-written) (u .steps) (u .none-changed) (back .none-erased)) in
-        (record { outcome = e ∙ ap (λ (x : PageOutcome). record { number = 0; place = 0; report = noColumns (x .report .steps) (x .report .low) }) (sym e); holds = holds-the-rows u }, ap (λ (x : PageOutcome). x .report .steps) e)
+        (record { unchanged = came-back-unchanged u; outcome = e }, ap (λ (x : PageOutcome). x .report .steps) e)
 
     refused-for-unread : TooManyUnread shortPage shortOuter (shortReader choice s limit) (softColumns shortPage soft) page → RefusedForUnread choice s soft limit old r new
     unfolding outcomeOf filled
-    refused-for-unread many = record { unread = many; outcome = gives ∙ ap outcomeOf (many .refused-there); holds = leaves ∙ ap (filled B old) (many .refused-there) }
+    refused-for-unread many = record { unread = many; outcome = made .0 ∙ ap outcomeOf (many .refused-there); holds = made .1 ∙ ap (filled B old) (many .refused-there) }
 
     -- whatever is spent: no column changed, or refused for unread columns
-    never-misled : CameBackUnchanged (B .made (written bytes)) r new ⊎ RefusedForUnread choice s soft limit old r new
+    never-misled : CameBackUnchanged page (B .made (written bytes)) r new ⊎ RefusedForUnread choice s soft limit old r new
     never-misled =
         ⊎-elim (λ back. inl (came-back-unchanged back)) (λ many. inr (refused-for-unread many))
         (Short.clean-page-comes-back-or-is-refused shortOuter shortEncoder ShortCodeword outer-laws bytes (right .are-bytes .size) (below-256 bytes (right .are-bytes)) soft (right .are-values .size) (page-is-soft soft (right .are-values)) (right .read-as-written) s limit choice)
 
   -- decoding leaves the data, asking the written symbols
-  data-held : (r : PageOutcome) (new : List ℕ) → CameBackUnharmed (dataBuffer .made (written bytes)) r new → CameBackUnharmed bytes r new
-  data-held r new = subst (λ (x : List ℕ). CameBackUnharmed x r new) (written-rows-pack-to-the-data bytes (right .are-bytes))
+  data-held : (answer : PageAnswer) (r : PageOutcome) (new : List ℕ) → CameBackUnharmed answer (dataBuffer .made (written bytes)) r new → CameBackUnharmed answer bytes r new
+  data-held answer r new = subst (λ (x : List ℕ). CameBackUnharmed answer x r new) (written-rows-pack-to-the-data bytes (right .are-bytes))
 
   -- "if each soft value reads as the written bit, at any sureness, and no column is spent, the data comes back with no column changed", and none erased
   module _ (all-read : NoColumnSpent short shortOuter (shortReader off s limit) (softColumns shortPage soft)) where
     unharmed : BackUnharmed shortPage shortEncoder bytes (decodedPage off s soft limit)
     unharmed = Short.clean-page-comes-back shortOuter shortEncoder ShortCodeword outer-laws bytes (right .are-bytes .size) (below-256 bytes (right .are-bytes)) soft (right .are-values .size) (page-is-soft soft (right .are-values)) (right .read-as-written) s limit all-read
 
-    pub clean-page-comes-back-from-decoding : (old : List ℕ) → length old ≡ 150 → (r : PageOutcome) (new : List ℕ) → PageDecoded s soft limit old r new → CameBackUnharmed bytes r new
-    clean-page-comes-back-from-decoding old room r new call = data-held r new (came-back-unharmed dataBuffer off refl old room r new call unharmed .0)
+    pub clean-page-comes-back-from-decoding : (old : List ℕ) → length old ≡ 150 → (r : PageOutcome) (new : List ℕ) → PageDecoded s soft limit old r new → CameBackUnharmed (decodedPage off s soft limit) bytes r new
+    clean-page-comes-back-from-decoding old room r new call = data-held _ r new (came-back-unharmed dataBuffer off refl old room r new call unharmed .0)
 
-    pub clean-page-comes-back-from-asking : (old : List ℕ) → length old ≡ 252 → (r : PageOutcome) (new : List ℕ) → PageAsked s soft limit old r new → CameBackUnharmed (writtenSymbols bytes) r new
+    pub clean-page-comes-back-from-asking : (old : List ℕ) → length old ≡ 252 → (r : PageOutcome) (new : List ℕ) → PageAsked s soft limit old r new → CameBackUnharmed (decodedPage off s soft limit) (writtenSymbols bytes) r new
     clean-page-comes-back-from-asking old room r new call = came-back-unharmed symbolBuffer off refl old room r new call unharmed .0
 
   -- "Under list of two the same holds, and no search is made.": in 0 steps, for every threshold that is allowed and every limit
@@ -177,23 +167,23 @@ module _ (bytes soft : List ℕ) (right : RightReadings bytes soft) (limit : ℕ
     unsearched = Short.clean-page-comes-back-unsearched shortOuter shortEncoder ShortCodeword outer-laws bytes (right .are-bytes .size) (below-256 bytes (right .are-bytes)) soft (right .are-values .size) (page-is-soft soft (right .are-values)) (right .read-as-written) s limit threshold
 
     pub clean-page-comes-back-unsearched-from-decoding : (old : List ℕ) → length old ≡ 150 → (r : PageOutcome) (new : List ℕ) → ListDecoded threshold s soft limit old r new
-        → CameBackUnharmed bytes r new × (r .report .steps ≡ 0) × Unsearched
+        → CameBackUnharmed (decodedPage (on threshold) s soft limit) bytes r new × (r .report .steps ≡ 0) × Unsearched
     clean-page-comes-back-unsearched-from-decoding old room r new call =
-        let back = came-back-unharmed dataBuffer (on threshold) in-range old room r new call (unsearched .0) in (data-held r new (back .0), back .1 ∙ unsearched .1, unsearched .2)
+        let back = came-back-unharmed dataBuffer (on threshold) in-range old room r new call (unsearched .0) in (data-held _ r new (back .0), back .1 ∙ unsearched .1, unsearched .2)
 
     pub clean-page-comes-back-unsearched-from-asking : (old : List ℕ) → length old ≡ 252 → (r : PageOutcome) (new : List ℕ) → ListAsked threshold s soft limit old r new
-        → CameBackUnharmed (writtenSymbols bytes) r new × (r .report .steps ≡ 0) × Unsearched
+        → CameBackUnharmed (decodedPage (on threshold) s soft limit) (writtenSymbols bytes) r new × (r .report .steps ≡ 0) × Unsearched
     clean-page-comes-back-unsearched-from-asking old room r new call =
         let back = came-back-unharmed symbolBuffer (on threshold) in-range old room r new call (unsearched .0) in (back .0, back .1 ∙ unsearched .1, unsearched .2)
 
   -- right readings never mislead, with list of two or without, whatever is spent: what comes back is the written data with no column changed, else the page is refused for its unread columns
   module _ (choice : Choice) (in-range : thresholdAllowed choice ≡ true) where
     pub right-readings-never-mislead-decoding : (old : List ℕ) → length old ≡ 150 → (r : PageOutcome) (new : List ℕ) → PageFilled dataBuffer choice s soft limit old r new
-        → CameBackUnchanged bytes r new ⊎ RefusedForUnread choice s soft limit old r new
+        → CameBackUnchanged (decodedPage choice s soft limit) bytes r new ⊎ RefusedForUnread choice s soft limit old r new
     right-readings-never-mislead-decoding old room r new call =
-        ⊎-elim (λ back. inl (subst (λ (x : List ℕ). CameBackUnchanged x r new) (written-rows-pack-to-the-data bytes (right .are-bytes)) back)) (λ refusal. inr refusal)
+        ⊎-elim (λ back. inl (subst (λ (x : List ℕ). CameBackUnchanged (decodedPage choice s soft limit) x r new) (written-rows-pack-to-the-data bytes (right .are-bytes)) back)) (λ refusal. inr refusal)
         (never-misled dataBuffer choice in-range old room r new call)
 
     pub right-readings-never-mislead-asking : (old : List ℕ) → length old ≡ 252 → (r : PageOutcome) (new : List ℕ) → PageFilled symbolBuffer choice s soft limit old r new
-        → CameBackUnchanged (writtenSymbols bytes) r new ⊎ RefusedForUnread choice s soft limit old r new
+        → CameBackUnchanged (decodedPage choice s soft limit) (writtenSymbols bytes) r new ⊎ RefusedForUnread choice s soft limit old r new
     right-readings-never-mislead-asking old room r new call = never-misled symbolBuffer choice in-range old room r new call

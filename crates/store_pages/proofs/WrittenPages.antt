@@ -14,14 +14,14 @@ use Rattle.concatenated.specs.Written.{writtenRows, columnsOf}
 use Rattle.concatenated.specs.Misread.{WithinReach}
 use Rattle.concatenated.specs.Readers.{shortReader}
 use Rattle.concatenated.specs.OuterCode.{shortOuter, shortEncoder, ShortCodeword}
-use Rattle.page.specs.Outcomes.{reportOf, refusedPage, outcomeOf, dataBuffer, filled}
+use Rattle.page.specs.Outcomes.{reportOf, outcomeOf, dataBuffer, filled}
 use Rattle.page.specs.declared.PageOutcome.{PageOutcome}
 use Rattle.concatenated.proofs.Digits.{Below}
 use Rattle.concatenated.proofs.OuterJoint.{outer-laws}
 use Rattle.concatenated.proofs.Short.{written-page-comes-back}
 use Rattle.store_pages.specs.Pages.{decodedPage, PageFilled}
 use Rattle.store_pages.specs.WrittenPages.{CameBack}
-use Rattle.store_pages.proofs.Asked.{accepted}
+use Rattle.store_pages.proofs.Asked.{accepted-call}
 
 module _ (soft : List ℕ) (values-soft : Values 1890 7 soft) (limit : ℕ) (some : 1 ≤ limit) (at-most : limit ≤ 2000) (choice : Choice) (in-range : thresholdAllowed choice ≡ true) (old : List ℕ) (room : length old ≡ 150) where
   -- what `encode_page` wrote, read within reach at each level, comes back from the call
@@ -31,13 +31,12 @@ module _ (soft : List ℕ) (values-soft : Values 1890 7 soft) (limit : ℕ) (som
   unfolding outcomeOf filled
   written-page-comes-back-from-the-calls s bytes full are-bytes within r new call =
       let back = written-page-comes-back shortOuter shortEncoder ShortCodeword outer-laws choice s limit bytes full are-bytes soft within in
-      let D = decodedPage choice s soft limit in
-      let asked = accepted soft values-soft limit some at-most choice in-range 150 old room in
-      let outcome : r ≡ outcomeOf (answered (back .0) (back .1)) = call .answer ∙ sym (asked PageOutcome refusedPage (outcomeOf D)) ∙ ap outcomeOf (back .2) in
+      let made = accepted-call dataBuffer choice s soft limit old values-soft some at-most in-range room r new call in
+      let outcome : r ≡ outcomeOf (answered (back .0) (back .1)) = made .0 ∙ ap outcomeOf (back .2) in
       record {
         number = ap (λ (x : PageOutcome). x .number) outcome;
         place = ap (λ (x : PageOutcome). x .place) outcome;
-        data-are = call .bytes ∙ sym (asked (List ℕ) (λ n p. old) (filled dataBuffer old D)) ∙ ap (filled dataBuffer old) (back .2) ∙ back .4;
+        data-are = made .1 ∙ ap (filled dataBuffer old) (back .2) ∙ back .4;
         levels = back .0;
         answered-so = back .2 ∙ ap (λ (x : PageOutcome). answered (back .0) (x .report .steps)) (sym outcome);
         rows-are-written = back .3;

@@ -1,6 +1,6 @@
 -- 02, point 3, of the calls: "The step sum of the all-zero page remains 7560."; its low point is 2, that of a first bit at level 0. Assumes nothing.
 use mathlib.Core.List.{List, flatMap}
-use mathlib.Core.Path.{_≡_, refl, sym, ap, _∙_}
+use mathlib.Core.Path.{_≡_, refl, ap, _∙_}
 use Prim.Native.Nat.{ℕ, _≤_}
 use native.Mathlib.Omega.{arith}
 use lib.IntN.{pos}
@@ -14,11 +14,11 @@ use Rattle.concatenated.specs.Decode.{allLows, pageLow}
 use Rattle.concatenated.specs.Marks.{markOf}
 use Rattle.concatenated.specs.Format.{shortPage}
 use Rattle.concatenated.specs.ZeroPage.{zeroPage}
-use Rattle.page.specs.Outcomes.{noColumns, refusedPage, outcomeOf, dataBuffer, filled}
+use Rattle.page.specs.Outcomes.{noColumns, outcomeOf, dataBuffer, filled}
 use Rattle.page.specs.declared.PageOutcome.{PageOutcome}
 use Rattle.concatenated.proofs.ZeroPage.{zero-page-comes-back, zero-levels-hold-zeros}
-use Rattle.store_pages.specs.Pages.{decodedPage, PageDecoded}
-use Rattle.store_pages.proofs.Asked.{accepted}
+use Rattle.store_pages.specs.Pages.{PageDecoded}
+use Rattle.store_pages.proofs.Asked.{accepted-call}
 
 zeros-are-soft : Values 1890 7 (zeroPage shortPage)
 zeros-are-soft = record { size = refl; range = λ k h. let none : getD {A = ℕ} (replicate 1890 0) k 0 ≡ 0 = getD-replicate 1890 k 0 0 h in omega arith }
@@ -29,9 +29,6 @@ pub zero-page-comes-back-from-the-calls : (s : Search) (limit : ℕ) → 30 ≤ 
     → (r ≡ record { number = 0; place = 0; report = noColumns 7560 (pos 2) }) × (new ≡ replicate 150 0)
 unfolding outcomeOf filled total markOf listed pageLow allLows flatMap lowest lowest-from lower
 zero-page-comes-back-from-the-calls s limit enough most old room r new call =
-    let asked = accepted (zeroPage shortPage) zeros-are-soft limit (omega arith) most off refl 150 old room in
-    let D = decodedPage off s (zeroPage shortPage) limit in
-    let back = zero-page-comes-back s limit enough in (
-      call .answer ∙ sym (asked PageOutcome refusedPage (outcomeOf D)) ∙ ap outcomeOf back,
-      call .bytes ∙ sym (asked (List ℕ) (λ n p. old) (filled dataBuffer old D)) ∙ ap (filled dataBuffer old) back ∙ zero-levels-hold-zeros,
-    )
+    let made = accepted-call dataBuffer off s (zeroPage shortPage) limit old zeros-are-soft (omega arith) most refl room r new call in
+    let back = zero-page-comes-back s limit enough in
+    (made .0 ∙ ap outcomeOf back, made .1 ∙ ap (filled dataBuffer old) back ∙ zero-levels-hold-zeros)

@@ -8,12 +8,13 @@ use Rattle.trellis.specs.Demand.{Search}
 use Rattle.trellis.specs.TwoWords.{Choice}
 use Rattle.concatenated.specs.Format.{shortPage}
 use Rattle.concatenated.specs.SoftPage.{softColumns}
+use Rattle.concatenated.specs.Decode.{Level, PageAnswer, answered, pageLow}
 use Rattle.concatenated.specs.Written.{writtenRows, writtenPage}
 use Rattle.concatenated.specs.Symbols.{rowAfterRow}
 use Rattle.concatenated.specs.Readers.{shortReader}
 use Rattle.concatenated.specs.Clean.{ReadsAsWritten, TooManyUnread}
 use Rattle.concatenated.specs.OuterCode.{shortOuter, shortEncoder}
-use Rattle.page.specs.Outcomes.{noColumns, refusedPage}
+use Rattle.page.specs.Outcomes.{noColumns, reportOf, refusedPage}
 use Rattle.page.specs.declared.PageOutcome.{PageOutcome}
 use Rattle.store_pages.specs.Pages.{decodedPage}
 
@@ -27,18 +28,20 @@ pub record RightReadings (bytes soft : List ℕ) : Type 0 where
 abbrev pub writtenSymbols : List ℕ → List ℕ
 writtenSymbols bytes = rowAfterRow (writtenRows shortPage shortEncoder bytes)
 
--- the call answers with number 0 and place 0, no column changed and none erased, by every total and mark; the buffer holds what it is to hold
-pub record CameBackUnharmed (contents : List ℕ) (r : PageOutcome) (new : List ℕ) : Type 0 where
-  pub outcome : r ≡ record { number = 0; place = 0; report = noColumns (r .report .steps) (r .report .low) }
-  pub holds : new ≡ contents
-
--- the same but for erased columns
-pub record CameBackUnchanged (contents : List ℕ) (r : PageOutcome) (new : List ℕ) : Type 0 where
-  pub number : r .number ≡ 0
-  pub place : r .place ≡ 0
+-- the call answers as the definition does, with number 0, place 0 and the definition's report, which has no changed column, by every total and mark; the buffer holds what it is to hold
+pub record CameBackUnchanged (answer : PageAnswer) (contents : List ℕ) (r : PageOutcome) (new : List ℕ) : Type 0 where
+  pub levels : List Level
+  pub steps : ℕ
+  pub answered-so : answer ≡ answered levels steps
+  pub outcome : r ≡ record { number = 0; place = 0; report = reportOf levels steps }
   pub changed : r .report .changed ≡ replicate 4 0
   pub changed-marks : r .report .«changed_marks» ≡ replicate 4 0
   pub holds : new ≡ contents
+
+-- and no erased column either: the report is that of no columns, with the definition's steps and low point
+pub record CameBackUnharmed (answer : PageAnswer) (contents : List ℕ) (r : PageOutcome) (new : List ℕ) : Type 0 where
+  pub unchanged : CameBackUnchanged answer contents r new
+  pub outcome : r ≡ record { number = 0; place = 0; report = noColumns (unchanged .steps) (pageLow (unchanged .levels)) }
 
 -- the call refuses by 10, at a level where more columns are unread than its row has roots, 30, 12, 6 or 4; the buffer is as it was
 pub record RefusedForUnread (choice : Choice) (s : Search) (soft : List ℕ) (limit : ℕ) (old : List ℕ) (r : PageOutcome) (new : List ℕ) : Type 0 where
