@@ -1,5 +1,5 @@
 /* Checks the vector files of a folder through the test entries: a line a file, then `N checked, M differ`.
-   The formats are those of tests/vectors/README.md. Lines of calls that the store does not have yet are counted as left, in files of other names too. */
+   The formats are those of tests/vectors/README.md. Lines of calls that the store does not have yet are counted as left, in files of other names too; batch.txt is left to tests/run-batch. */
 #include "listing.h"
 #include <dirent.h>
 #include <limits.h>
@@ -514,7 +514,7 @@ static const struct { const char *name; verdict (*line_of)(const record *); } te
 };
 enum { TEXTS = sizeof texts / sizeof texts[0] };
 
-/* Files of calls to come, in the folder itself or in a folder below it: how many lines each has. */
+/* Files of calls to come, in the folder itself or in a folder below it, and batch.txt: how many lines each has. */
 static void count_left(const char *folder, const char *below) {
     char path[4096];
     snprintf(path, sizeof path, "%s/%s", folder, below);
@@ -530,7 +530,7 @@ static void count_left(const char *folder, const char *below) {
         unsigned long lines = 0;
         for (int c; (c = getc(file)) != EOF;) lines += c == '\n';
         fclose(file);
-        printf("%s%s: %lu of calls to come\n", below, entry->d_name, lines);
+        printf("%s%s: %lu %s\n", below, entry->d_name, lines, strcmp(entry->d_name, "batch.txt") ? "of calls to come" : "for tests/run-batch");
     }
     closedir(dir);
 }

@@ -2,8 +2,8 @@
 use Rattle.page.specs.Outcomes.{Buffer}
 use Rattle.questions.specs.Answer.{number, place, value}
 use Rattle.questions.specs.declared.Answer.{Answer}
-use Rattle.store_searches.specs.declared.SearchAnswer.{SearchAnswer}
-use Rattle.store_searches.specs.Searches as searches
+use Rattle.searches.specs.declared.SearchAnswer.{SearchAnswer}
+use Rattle.searches.specs.Searches as searches
 use mathlib.Core.List.{List}
 use mathlib.Core.Path.{_≡_}
 use Prim.Native.Nat.{ℕ}

@@ -3,7 +3,7 @@ ghost use mathlib.Core.Path.{_≡_};
 ghost use Rattle.store_columns.specs.Columns.{encodeAnswer, levelWordAnswer, reimageAnswer};
 ghost use Rattle.trellis.specs.Demand.{whole, supercode};
 ghost use Rattle.trellis.specs.TwoWords.{off, on};
-ghost use Rattle.store_searches.specs.Searches.{searchAnswer};
+ghost use Rattle.searches.specs.Searches.{searchAnswer};
 ghost use Rattle.reedsolomon.specs.Row.{outerAnswer, encodedRow, wordOf};
 ghost use Rattle.dump.specs.Dump.{dumpOf, softOf};
 ghost use Rattle.reedsolomon.specs.ShortRows.{shortRoots};
@@ -23,7 +23,7 @@ ghost use Rattle.store_pages.specs.Committing.{commitAnswer, heldBytes};
 use page::PageOutcome;
 use questions::Answer;
 use questions::Outcome;
-use store_searches::SearchAnswer;
+use searches::SearchAnswer;
 
 #[repr(C)]
 pub struct Told {

@@ -27,7 +27,7 @@ use Rattle.trellis.specs.Order.{number, sum, zeroFirst, before}
 use Rattle.trellis.specs.Demand.{Search, whole, supercode}
 use Rattle.trellis.specs.TwoWords.{off}
 use Rattle.trellis.proofs.ZeroColumn.{zero-column-in-30-steps, zero-column-spent-below-30}
-use Rattle.store_searches.specs.Searches.{number as answerNumber, place, word, count, low, Allowed, outcomeAnswer}
+use Rattle.searches.specs.Searches.{number as answerNumber, place, word, count, low, Allowed, outcomeAnswer}
 use Rattle.store_searches.proofs.Calls.{asked}
 use Rattle.known.specs.FourBits.{beginsSome}
 use Rattle.known.specs.Known.{sums, levels, zeroColumn, cases, Holds, AllHold}

@@ -18,8 +18,8 @@ use Rattle.trellis.specs.Order.{sum, before}
 use Rattle.trellis.specs.Demand.{Search, whole, supercode}
 use Rattle.trellis.specs.TwoWords.{off}
 use Rattle.trellis.specs.Trellis.{WordFound, searched}
-use Rattle.store_searches.specs.Searches.{Is, searchAnswer}
-use Rattle.store_searches.specs.declared.SearchAnswer.{SearchAnswer}
+use Rattle.searches.specs.Searches.{Is, searchAnswer}
+use Rattle.searches.specs.declared.SearchAnswer.{SearchAnswer}
 use Rattle.known.specs.FourBits.{fourBitWhole, fourBitSupercode, valuesOf001, softOf001, noValues, path001}
 
 -- what the definitions give, and what 01 says of it

@@ -23,6 +23,16 @@ first-bad P count first refusal next r n = by-answer P (leb count first) refusal
 
 -- ---- the answer of the questions alone: Done, or the first no
 
+-- what that answer leads to: what a no gives, or what follows
+abbrev pub led : {A : Type 0} → Outcome → (ℕ → ℕ → A) → A → A
+led Done refusal next = next
+led (Refused n p) refusal next = refusal n p
+
+-- a question in front of others that the answer of the questions alone leads on from
+pub led-on : {A : Type 0} (t : Bool) (n p : ℕ) (refusal : ℕ → ℕ → A) (next : A) (o : Outcome) {rest : A} → rest ≡ led o refusal next → ask t (refusal n p) rest ≡ led (ask t (Refused n p) o) refusal next
+led-on true n p refusal next o e = e
+led-on false n p refusal next o e = refl
+
 -- done: it was answered yes, and so were those behind it
 pub asked-done : (t : Bool) (n p : ℕ) (rest : Outcome) → ask t (Refused n p) rest ≡ Done → (t ≡ true) × (rest ≡ Done)
 asked-done true n p rest e = (refl, e)

@@ -1,6 +1,6 @@
--- The table of branch values: its entries, that each lies within 60 of zero, and the raising of 01's table to that of a level. Assumes nothing.
+-- The tables of a search. Branch values: the entries, that each lies within 60 of zero, and the raising of 01's table to that of a level; the masks of the supercode search, level by level. Assumes nothing.
 use mathlib.Core.Bool.{Bool, true, false}
-use mathlib.Core.List.{List}
+use mathlib.Core.List.{List, []}
 use mathlib.Core.Logic.{_⊎_, inl, inr, ⊎-elim}
 use mathlib.Core.Path.{_≡_, refl, sym, ap, ap₂, _∙_, subst, subst⁻¹}
 use Prim.Native.Nat.{ℕ, suc, _+_, _*_, _/_, _%_, _≤_, _<_}
@@ -21,6 +21,7 @@ use Rattle.trellis.proofs.Order.{bit-below}
 use Rattle.trellis.proofs.Sums.{add-near, Near, level-values-near}
 use Rattle.stack.proofs.Sums.{near-fits}
 use Rattle.extension.specs.Steps.{TableOf, tableOf}
+use Rattle.search.specs.Outcomes.{SupercodesAt, SupercodesBelow}
 
 pub table-of : (vs : Values) → TableOf vs (tableOf vs)
 table-of vs = record {
@@ -48,6 +49,9 @@ raising-fits i h k x e =
     let near : natAbs x ≤ 60 = subst⁻¹ (λ (v : ℤ). natAbs v ≤ 60) e (table-near values (subst (Near 60) level-0-has-the-values-of-01 (level-values-near 0 (omega arith))) k) in
     (near-fits x (omega arith), near-fits (pos (2 * i)) (omega arith), near-fits (x +ℤ pos (2 * i)) (omega (arith, add-near x (pos (2 * i)))))
 
+at-or-below : (j k : ℕ) → j < k + 1 → (j ≡ k) ⊎ (j < k)
+at-or-below j k l = let up-to : suc j ≤ suc k = omega arith in ⊎-elim (λ e. inl (suc-inj e)) (λ u. inr (le-of-suc-le-suc u)) (eq-or-lt-of-le up-to)
+
 -- the first k entries of a table are raised by r, the others are as they were
 pub record RaisedUpTo (r : ℤ) (old : List ℤ) (k : ℕ) (table : List ℤ) : Type 0 where
   pub long : length table ≡ length old
@@ -66,9 +70,6 @@ one-more-raised r old k table x inside so e = record {
       (at-or-below j k l);
   left = λ j l. getD-set-other table k j x (pos 0) (λ same. absurd (omega (arith, same, l))) ∙ so .left j (omega arith);
 }
-  where
-    at-or-below : (j k : ℕ) → j < k + 1 → (j ≡ k) ⊎ (j < k)
-    at-or-below j k l = let up-to : suc j ≤ suc k = omega arith in ⊎-elim (λ e. inl (suc-inj e)) (λ u. inr (le-of-suc-le-suc u)) (eq-or-lt-of-le up-to)
 
 -- 01's table, all of it raised by 2·i, is that of level i
 pub all-raised : (i k : ℕ) (table : List ℤ) → 16 ≤ k → RaisedUpTo (pos (2 * i)) (tableOf values) k table → table ≡ tableOf (levelValues i)
@@ -77,3 +78,25 @@ all-raised i k table enough so =
     (λ j l. let inside : j < 16 = omega (arith, so .long, table-length values) in
     so .raised j (omega arith) ∙ ap (λ (v : ℤ). v +ℤ pos (2 * i)) (tabulated-at (λ k. branch values (k / 8) (k % 8)) 16 j (pos 0) inside)
     ∙ sym (branch-at-level i (j / 8) (j % 8)) ∙ sym (tabulated-at (λ k. branch (levelValues i) (k / 8) (k % 8)) 16 j (pos 0) inside))
+
+-- the masks of one level more
+pub one-level-more : (n : ℕ) (tables : List (List ℕ)) (left right : List ℕ) → n < 4 → SupercodesBelow n tables → SupercodesAt n left right → SupercodesBelow (n + 1) (set (set tables n left) (n + 4) right)
+one-level-more n tables left right few below at = record {
+  many = length-set (set tables n left) (n + 4) right ∙ length-set tables n left ∙ below .many;
+  each = λ i l.
+      ⊎-elim (λ same. subst⁻¹ (λ (j : ℕ). SupercodesAt j (getD after j []) (getD after (j + 4) [])) same
+      (subst⁻¹ (λ (m : List ℕ). SupercodesAt n m (getD after (n + 4) [])) (getD-set-other first (n + 4) n right [] (λ e. absurd (omega arith)) ∙ getD-set-same tables n left [] (omega (arith, below .many)))
+      (subst⁻¹ (SupercodesAt n left) (getD-set-same first (n + 4) right [] (omega (arith, below .many, length-set tables n left))) at)))
+      (λ under. subst⁻¹ (λ (m : List ℕ). SupercodesAt i m (getD after (i + 4) [])) (kept i (λ e. absurd (omega (arith, e, under))) (λ e. absurd (omega (arith, e, under))))
+      (subst⁻¹ (SupercodesAt i (getD tables i [])) (kept (i + 4) (λ e. absurd (omega (arith, e, under))) (λ e. absurd (omega (arith, e, under)))) (below .each i under)))
+      (at-or-below i n l);
+}
+  where
+    first : List (List ℕ)
+    first = set tables n left
+
+    after : List (List ℕ)
+    after = set first (n + 4) right
+
+    kept : (j : ℕ) → (j ≡ n → ⊥) → (j ≡ n + 4 → ⊥) → getD after j [] ≡ getD tables j []
+    kept j one two = getD-set-other first (n + 4) j right [] two ∙ getD-set-other tables n j left [] one

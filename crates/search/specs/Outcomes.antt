@@ -1,8 +1,8 @@
 -- For the code's contracts: the outcome of a search as the code gives it, what the short page's search is lent, and which search a flag names. Assumes nothing.
 use mathlib.Core.Bool.{Bool, true, false}
-use mathlib.Core.List.{List}
+use mathlib.Core.List.{List, []}
 use mathlib.Core.Path.{_≡_}
-use Prim.Native.Nat.{ℕ, _≤_, _<_}
+use Prim.Native.Nat.{ℕ, _+_, _≤_, _<_}
 use lib.IntN.{ℤ, pos, natAbs}
 use lib.ListN.{length, getD}
 use Rattle.column.specs.Shape.{short}
@@ -31,6 +31,17 @@ pub record TablesFor (s : Search) (i : ℕ) (left right : List ℕ) (table : Lis
   pub lefts : length left ≡ 30
   pub rights : length right ≡ 30
   pub values : table ≡ tableOf (levelValues i)
+
+-- the two tables of masks of the supercode search at a level
+pub record SupercodesAt (i : ℕ) (left right : List ℕ) : Type 0 where
+  pub masks : MasksFor supercode short i left right
+  pub lefts : length left ≡ 30
+  pub rights : length right ≡ 30
+
+-- those of the levels below n: of a level's first supercode at the level, of its second four places on
+pub record SupercodesBelow (n : ℕ) (tables : List (List ℕ)) : Type 0 where
+  pub many : length tables ≡ 8
+  pub each : (i : ℕ) → i < n → SupercodesAt i (getD tables i []) (getD tables (i + 4) [])
 
 -- a soft column of 30 values 0..7, two tables of masks, each 0 or odd, and a table of branch values within 60 of zero
 pub record Searchable30 (soft left right : List ℕ) (table : List ℤ) : Type 0 where

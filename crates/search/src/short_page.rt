@@ -3,7 +3,7 @@ ghost use Prim.Native.Nat.{_<_};
 ghost use mathlib.Core.Path.{_≡_};
 ghost use Rattle.trellis.specs.Values.{values as branchValues, levelValues};
 ghost use Rattle.extension.specs.Steps.{tableOf};
-ghost use Rattle.search.specs.Outcomes.{TablesFor, searchOf};
+ghost use Rattle.search.specs.Outcomes.{TablesFor, SupercodesBelow, searchOf};
 
 // 01's branch values as a table: the entry 8 b + q is what the soft value q gives to the bit b.
 fn values() -> [i16; 16]
@@ -30,7 +30,7 @@ fn values() -> [i16; 16]
 }
 
 // The branch values of a level as a table: 01's, each raised by 2 · level (02, point 3).
-fn level_values(level: usize) -> [i16; 16]
+pub fn level_values(level: usize) -> [i16; 16]
     requires { ⌜ level < 4 ⌝ }
     ensures { λ r. ⌜ r ≡ tableOf (levelValues level) ⌝ }
 {
@@ -69,4 +69,18 @@ pub fn tables_of(level: usize, in_supercodes: bool) -> Tables
         right: column::masks::no_masks(),
         values: values,
     }
+}
+
+// The masks of the supercode search at every level: those of a level's first supercode at the level, those of its second four places on. Made once a batch and lent to its searches.
+pub fn supercode_masks() -> [[u64; 30]; 8]
+    ensures { λ r. ⌜ SupercodesBelow 4 r ⌝ }
+{
+    let mut masks = [[0u64; 30]; 8];
+    let mut level: usize = 0;
+    while level < 4 {
+        masks[level] = column::masks::left_masks(level);
+        masks[level + 4] = column::masks::right_masks(level);
+        level += 1;
+    }
+    masks
 }

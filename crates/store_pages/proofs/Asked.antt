@@ -28,18 +28,13 @@ use Rattle.page.specs.declared.PageOutcome.{PageOutcome}
 use Rattle.questions.specs.Questions.{ask, firstAbove}
 use Rattle.questions.specs.declared.Outcome.{Outcome}
 use Rattle.questions.specs.declared.Outcome.the-variants.{Done, Refused}
-use Rattle.questions.proofs.EitherWay.{by-answer, either, first-bad, asked-done}
+use Rattle.questions.proofs.EitherWay.{by-answer, either, first-bad, led, led-on, asked-done}
 use Rattle.store_pages.specs.Pages.{askPage, decodedPage, PageFilled}
 use Rattle.store_pages.proofs.SoftValues.{values-are-soft, none-above-7}
 
 -- a refusal of a number 1..11 and a place up to 1890
 abbrev pub Refusals : {A : Type 0} → (A → Type 0) → (ℕ → ℕ → A) → Type 0
 Refusals P refusal = (n p : ℕ) → 1 ≤ n → n ≤ 11 → p ≤ 1890 → P (refusal n p)
-
--- what the answer of the questions alone leads to: what a no gives, or what follows
-abbrev led : {A : Type 0} → Outcome → (ℕ → ℕ → A) → A → A
-led Done refusal next = next
-led (Refused n p) refusal next = refusal n p
 
 module _ (choice : Choice) (soft : List ℕ) (limit : ℕ) (room : Bool) where
   -- what holds of every refusal, and of what follows with a limit up to 2000, holds whatever is answered
@@ -77,20 +72,14 @@ module _ (choice : Choice) (soft : List ℕ) (limit : ℕ) (room : Bool) where
 
   -- the answer of the questions alone settles every use of them
   pub settled : {A : Type 0} (refusal : ℕ → ℕ → A) (next : A) (o : Outcome) → o ≡ askPage choice soft limit room Refused Done → askPage choice soft limit room refusal next ≡ led o refusal next
-  settled {A} refusal next o e = go (eqb (length soft) 1890) room (leb 1 limit) (leb limit 2000) (thresholdAllowed choice) (leb 1890 (firstAbove soft 7)) ∙ ap (λ (x : Outcome). led x refusal next) (sym e)
-    where
-      bad : ℕ
-      bad = firstAbove soft 7
-
-      go : (a b c d e f : Bool) → ask a (refusal 1 0) (ask b (refusal 2 0) (ask c (refusal 4 0) (ask d (refusal 4 0) (ask e (refusal 11 0) (ask f (refusal 5 bad) next)))))
-          ≡ led (ask a (Refused 1 0) (ask b (Refused 2 0) (ask c (Refused 4 0) (ask d (Refused 4 0) (ask e (Refused 11 0) (ask f (Refused 5 bad) Done)))))) refusal next
-      go false b c d e f = refl
-      go true false c d e f = refl
-      go true true false d e f = refl
-      go true true true false e f = refl
-      go true true true true false f = refl
-      go true true true true true false = refl
-      go true true true true true true = refl
+  settled refusal next o e =
+      led-on (eqb (length soft) 1890) 1 0 refusal next _
+      (led-on room 2 0 refusal next _
+      (led-on (leb 1 limit) 4 0 refusal next _
+      (led-on (leb limit 2000) 4 0 refusal next _
+      (led-on (thresholdAllowed choice) 11 0 refusal next _
+      (led-on (leb 1890 (firstAbove soft 7)) 5 (firstAbove soft 7) refusal next Done refl)))))
+      ∙ ap (λ (x : Outcome). led x refusal next) (sym e)
 
   -- a refusal has a number other than 0
   abbrev pub Numbered : Outcome → Type 0

@@ -8,7 +8,6 @@ use native.Mathlib.Decide.{decLe}
 use native.Mathlib.Omega.{arith}
 use lib.IntN.{ℤ, pos}
 use lib.ListN.{length}
-use borrow.Author.Tests.{eq-eqb, lt-ltb, le-leb}
 use Rattle.column.specs.Shape.{short}
 use Rattle.paths.specs.Lists.{Lists}
 use Rattle.paths.specs.Paths.{Path}
@@ -21,15 +20,14 @@ use Rattle.trellis.specs.Demand.{Search, whole, supercode, trellis, AheadOfAll,
 use Rattle.trellis.proofs.Demand.{Searchable, ranks-differ-by-the-dead-ahead}
 use Rattle.trellis.proofs.Counts.{rank-counts, rank-is-a-number-of-paths, dead-ahead-counts}
 use Rattle.trellis.proofs.Short.{searchable, one-codeword-is-ahead-of-all, answers-within-the-limit, is-spent-above-the-limit}
-use Rattle.questions.proofs.AllInRange.{no-value-above}
-use Rattle.store_searches.specs.Searches.{number, place, word, count, low, Is, Allowed, outcomeAnswer, searchAnswer}
-use Rattle.store_searches.specs.declared.SearchAnswer.the-variants.{Found, Refused}
+use Rattle.searches.proofs.Questions.{all-yes}
+use Rattle.searches.specs.Searches.{number, place, word, count, low, Is, Allowed, outcomeAnswer, searchAnswer}
+use Rattle.searches.specs.declared.SearchAnswer.the-variants.{Found, Refused}
 
 -- only question 9 is left
 pub asked : (choice : Choice) → thresholdAllowed choice ≡ true → (s : Search) (level : ℕ) (soft : List ℕ) (limit : ℕ) → Allowed level soft limit
     → searchAnswer choice s level soft limit ≡ outcomeAnswer (searchedBy choice s short (levelValues level) limit soft level)
-asked choice in-range s level soft limit allowed =
-    rw (eq-eqb _ _ (allowed .full), lt-ltb _ _ (allowed .level), le-leb _ _ (allowed .some), le-leb _ _ (allowed .most), in-range, no-value-above soft 30 7 (allowed .full) (allowed .range)) refl
+asked choice in-range s level soft limit allowed = all-yes choice level soft limit in-range allowed Refused _
 
 module _ (s : Search) (level : ℕ) (soft : List ℕ) (limit : ℕ) (allowed : Allowed level soft limit) where
   -- one codeword is ahead of all others, and the search's paths that are prefixes of it or ahead of it can be listed

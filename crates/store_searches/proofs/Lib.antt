@@ -1,3 +1,2 @@
-pub mod Outcomes
 pub mod Calls
 pub mod ListCalls

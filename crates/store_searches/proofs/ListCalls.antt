@@ -30,9 +30,9 @@ use Rattle.trellis.proofs.Counts.{rank-counts, rank-is-a-number-of-paths, dead-
 use Rattle.trellis.proofs.TwoWords as TwoWords
 use Rattle.trellis.proofs.Thresholds.{threshold-is-refused-exactly}
 use Rattle.questions.specs.Questions.{ask, firstAbove}
-use Rattle.store_searches.specs.Searches.{number, place, word, count, low, Is, Allowed, outcomeAnswer, searchAnswer}
-use Rattle.store_searches.specs.declared.SearchAnswer.{SearchAnswer}
-use Rattle.store_searches.specs.declared.SearchAnswer.the-variants.{Found, Refused}
+use Rattle.searches.specs.Searches.{number, place, word, count, low, Is, Allowed, outcomeAnswer, searchAnswer}
+use Rattle.searches.specs.declared.SearchAnswer.{SearchAnswer}
+use Rattle.searches.specs.declared.SearchAnswer.the-variants.{Found, Refused}
 use Rattle.store_searches.proofs.Calls.{asked}
 
 -- an answer in all its words

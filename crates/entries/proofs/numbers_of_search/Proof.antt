@@ -2,7 +2,7 @@
 use mathlib.Core.Path.{sym, ap, _∙_}
 use lib.IntN.{ℤ}
 use mir.Facts.{toZ-ofZ}
-use Rattle.store_searches.specs.declared.SearchAnswer.the-variants.{Found}
+use Rattle.searches.specs.declared.SearchAnswer.the-variants.{Found}
 use Rattle.entries.specs.Told.{foundOf}
 use borrow.Author.Needs.{needs}
 use Rattle.entries.proofs.numbers_of_search.Statement.{statement}

@@ -12,8 +12,8 @@ use Rattle.trellis.specs.Demand.{Search}
 use Rattle.trellis.specs.Trellis.{WordFound}
 use Rattle.trellis.specs.TwoWords.{Choice, thresholdAllowed, searchedBy}
 use Rattle.questions.specs.Questions.{ask, firstAbove}
-use Rattle.store_searches.specs.declared.SearchAnswer.{SearchAnswer}
-use Rattle.store_searches.specs.declared.SearchAnswer.the-variants.{Found, Refused}
+use Rattle.searches.specs.declared.SearchAnswer.{SearchAnswer}
+use Rattle.searches.specs.declared.SearchAnswer.the-variants.{Found, Refused}
 
 -- what the cases are in 01's and 02's words: a number, 0 where nothing is refused, a place, the word, the count and the low point; a refusal has 0
 abbrev pub number : SearchAnswer → ℕ
@@ -62,13 +62,17 @@ unfoldable pub outcomeAnswer : SearchResult WordFound → SearchAnswer
 outcomeAnswer (answer w c) = Found (w .column) c (w .low)
 outcomeAnswer (spent c) = Refused 9 0
 
--- 1: 30 values; 3: the level; 4: the limit 1..2,000; 11: with list of two, its threshold; 5: each value 0..7; 9
+-- 1: 30 values; 3: the level; 4: the limit 1..2,000; 11: with list of two, its threshold; 5: each value 0..7; `refusal` gives what a no gives
+abbrev pub askSearch : {A : Type 0} → Choice → ℕ → List ℕ → ℕ → (ℕ → ℕ → A) → A → A
+askSearch choice level soft limit refusal next =
+    ask (eqb (length soft) 30) (refusal 1 0)
+    (ask (ltb level 4) (refusal 3 0)
+    (ask (leb 1 limit) (refusal 4 0)
+    (ask (leb limit 2000) (refusal 4 0)
+    (ask (thresholdAllowed choice) (refusal 11 0)
+    (ask (leb 30 (firstAbove soft 7)) (refusal 5 (firstAbove soft 7))
+    next)))))
+
+-- these questions, then 9
 abbrev pub searchAnswer : Choice → Search → ℕ → List ℕ → ℕ → SearchAnswer
-searchAnswer choice s level soft limit =
-    ask (eqb (length soft) 30) (Refused 1 0)
-    (ask (ltb level 4) (Refused 3 0)
-    (ask (leb 1 limit) (Refused 4 0)
-    (ask (leb limit 2000) (Refused 4 0)
-    (ask (thresholdAllowed choice) (Refused 11 0)
-    (ask (leb 30 (firstAbove soft 7)) (Refused 5 (firstAbove soft 7))
-    (outcomeAnswer (searchedBy choice s short (levelValues level) limit soft level)))))))
+searchAnswer choice s level soft limit = askSearch choice level soft limit Refused (outcomeAnswer (searchedBy choice s short (levelValues level) limit soft level))

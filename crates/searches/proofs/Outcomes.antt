@@ -16,9 +16,9 @@ use Rattle.search.specs.declared.SearchOutcome.the-variants.{Found as CodeFound
 use Rattle.list_of_two.specs.declared.Way.{Way}
 use Rattle.list_of_two.specs.Ways.{choiceOf}
 use Rattle.questions.specs.Questions.{firstAbove}
-use Rattle.store_searches.specs.Searches.{number, place, word, count, low, Answered, outcomeAnswer}
-use Rattle.store_searches.specs.declared.SearchAnswer.{SearchAnswer}
-use Rattle.store_searches.specs.declared.SearchAnswer.the-variants.{Found, Refused}
+use Rattle.searches.specs.Searches.{number, place, word, count, low, Answered, outcomeAnswer}
+use Rattle.searches.specs.declared.SearchAnswer.{SearchAnswer}
+use Rattle.searches.specs.declared.SearchAnswer.the-variants.{Found, Refused}
 use Rattle.questions.proofs.FirstAbove.{below-first}
 
 pub found-answer : (o : SearchResult WordFound) (w c : ℕ) (z y : ℤ) → CodeFound w c z ≡ codeOutcome o → y ≡ z → Found w c y ≡ outcomeAnswer o
