@@ -1,12 +1,12 @@
 -- The first value above a bound, as a loop finds it. Assumes nothing.
-use mathlib.Core.Path.{_≡_}
+use mathlib.Core.Path.{_≡_, refl}
 use mathlib.Core.Bool.{Bool, cond, true, false}
 use mathlib.Core.List.{List, [], _∷_}
 use Prim.Native.Nat.{ℕ, zero, suc, _+_, _<_, _≤_}
 use native.Mathlib.Nat.{not-suc-le-zero, le-of-suc-le-suc}
 use native.Mathlib.Numerals.{add-one}
 use native.Mathlib.Omega.{arith}
-use borrow.Author.Tests.{le-leb, lt-leb}
+use borrow.Author.Tests.{le-leb, lt-leb, leb-false}
 use lib.Dec.{T, leb, leb→le}
 use lib.ListN.{length, getD, drop}
 use lib.Seq.{drop-cons, drop-length}
@@ -36,6 +36,16 @@ below-first (x ∷ xs) top k h = go (leb x top) (leb→le x top) k h (below-firs
     go true ok zero h later = ok tt
     go true ok (suc k) h later = later k (le-of-suc-le-suc h)
     go false ok k h later = absurd (not-suc-le-zero h)
+
+-- and the value at its place, if there is one, is not
+pub first-is-above : (s : List ℕ) (top : ℕ) → firstAbove s top < length s → top < getD s (firstAbove s top) 0
+unfolding firstAbove
+first-is-above [] top h = absurd (not-suc-le-zero h)
+first-is-above (x ∷ xs) top h = go (leb x top) refl h (first-is-above xs top)
+  where
+    go : (b : Bool) → leb x top ≡ b → cond b (suc (firstAbove xs top)) 0 < suc (length xs) → (firstAbove xs top < length xs → top < getD xs (firstAbove xs top) 0) → top < getD (x ∷ xs) (cond b (suc (firstAbove xs top)) 0) 0
+    go true e h later = later (le-of-suc-le-suc h)
+    go false e h later = leb-false x top e
 
 -- as a call reads it: v stands at k, before the first bad value
 pub read-in-range : (s : List ℕ) (top k v : ℕ) → k < firstAbove s top → v ≡ getD s k 0 → v < suc top

@@ -1,6 +1,6 @@
 -- The jobs of a batch in the code: a column's part of the buffer, and what is written into a job. Assumes nothing.
 use mathlib.Core.List.{List}
-use mathlib.Core.Path.{_≡_, refl, sym, ap, _∙_}
+use mathlib.Core.Path.{_≡_, sym, ap, _∙_}
 use Prim.Native.Nat.{ℕ, _+_, _-_, _≤_, _<_}
 use native.Mathlib.Omega.{arith}
 use borrow.Author.Tests.{le-leb, lt-leb}
@@ -12,7 +12,7 @@ use Rattle.searches.specs.Searches.{searchAnswer}
 use Rattle.searches.specs.declared.SearchAnswer.{SearchAnswer}
 use Rattle.searches.specs.declared.SearchAnswer.the-variants.{Found, Refused}
 use Rattle.store_batches.specs.declared.Job.{Job}
-use Rattle.store_batches.specs.Jobs.{liesIn, columnFrom, jobAnswer, noted}
+use Rattle.store_batches.specs.Jobs.{jobAnswer, noted}
 
 -- 12 is the answer of a job whose bytes do not lie in the buffer
 pub lies-outside : (soft : List ℕ) (limit : ℕ) (job : Job) → length soft < job .first + 30 → Refused 12 0 ≡ jobAnswer soft limit job

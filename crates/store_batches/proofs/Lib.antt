@@ -1,3 +1,4 @@
 pub mod Jobs
+pub mod Batches
 pub mod Lending
 pub mod Upto

@@ -1,5 +1,5 @@
 -- What the questions of the page decoders and of asking lead to: the first no, or the page's answer. Assumes nothing.
-use mathlib.Core.Bool.{Bool, true, false}
+use mathlib.Core.Bool.{Bool, true}
 use mathlib.Core.List.{List}
 use mathlib.Core.Path.{_≡_, refl, sym, ap, ap₂, _∙_, subst}
 use Prim.Native.Nat.{ℕ, _≤_}
@@ -25,7 +25,7 @@ use Rattle.concatenated.specs.Decode.{decoded}
 use Rattle.concatenated.specs.OuterCode.{shortOuter}
 use Rattle.page.specs.Outcomes.{refusedPage, outcomeOf, Buffer, filled}
 use Rattle.page.specs.declared.PageOutcome.{PageOutcome}
-use Rattle.questions.specs.Questions.{ask, firstAbove}
+use Rattle.questions.specs.Questions.{firstAbove}
 use Rattle.questions.specs.declared.Outcome.{Outcome}
 use Rattle.questions.specs.declared.Outcome.the-variants.{Done, Refused}
 use Rattle.questions.proofs.EitherWay.{by-answer, either, first-bad, led, led-on, asked-done}
