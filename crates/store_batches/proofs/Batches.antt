@@ -1,10 +1,9 @@
 -- 02, point 2, of the call: every job of the list is left with what the single supercode call answers on its column, or with 12. Assumes nothing.
-use mathlib.Core.List.{List, [], _∷_, map}
+use mathlib.Core.List.{List, map}
 use mathlib.Core.Logic.{_↔_}
 use mathlib.Core.Path.{_≡_, refl, sym, ap, _∙_, subst}
-use Prim.Native.Nat.{ℕ, zero, suc, _+_, _≤_, _<_}
+use Prim.Native.Nat.{ℕ, _+_, _≤_, _<_}
 use native.Mathlib.Decide.{decLe}
-use native.Mathlib.Nat.{not-suc-le-zero, le-of-suc-le-suc}
 use native.Mathlib.Omega.{arith}
 use borrow.Author.Tests.{le-leb, lt-leb, lt-ltb, le-ltb, eq-eqb}
 use lib.Dec.{eqb, ltb, leb}
@@ -16,6 +15,7 @@ use Rattle.paths.specs.Paths.{Path}
 use Rattle.paths.specs.Low.{low-point}
 use Rattle.paths.specs.Search.{SearchResult, answer, spent}
 use Rattle.column.specs.Shape.{short}
+use Rattle.column.proofs.Tabulated.{map-at}
 use Rattle.trellis.specs.Values.{levelValues}
 use Rattle.trellis.specs.Order.{number as columnOf, sum}
 use Rattle.trellis.specs.Demand.{supercode, AheadOfAll, Counted}
@@ -34,9 +34,7 @@ use Rattle.store_batches.specs.Batches.{RefusedBy, FirstBad}
 
 -- "The outcome equals the single supercode calls in list order": each job is done, by what it held itself
 pub job-by-job : (soft : List ℕ) (limit : ℕ) (jobs : List Job) (k : ℕ) (d : Job) → k < length jobs → getD (map (doneJob soft limit) jobs) k d ≡ doneJob soft limit (getD jobs k d)
-job-by-job soft limit [] k d h = absurd (not-suc-le-zero h)
-job-by-job soft limit (job ∷ jobs) zero d h = refl
-job-by-job soft limit (job ∷ jobs) (suc k) d h = job-by-job soft limit jobs k d (le-of-suc-le-suc h)
+job-by-job soft limit jobs k d h = map-at (doneJob soft limit) jobs k d d h
 
 module _ (soft : List ℕ) (limit : ℕ) (job : Job) where
   abbrev column : List ℕ
