@@ -1,6 +1,6 @@
 -- A search's outcome as its answer. Assumes nothing.
 use mathlib.Core.List.{List}
-use mathlib.Core.Path.{_≡_, refl, ap, ap₂, _∙_}
+use mathlib.Core.Path.{_≡_, sym, ap, ap₂, _∙_}
 use Prim.Native.Nat.{ℕ, _≤_, _<_}
 use native.Mathlib.Omega.{arith}
 use lib.IntN.{ℤ}
@@ -12,24 +12,25 @@ use Rattle.trellis.specs.Demand.{Search}
 use Rattle.trellis.specs.Trellis.{WordFound}
 use Rattle.trellis.specs.TwoWords.{Choice, searchedBy}
 use Rattle.search.specs.Outcomes.{codeOutcome}
-use Rattle.search.specs.declared.SearchOutcome.the-variants.{Found as CodeFound, Spent as CodeSpent}
+use Rattle.search.specs.declared.SearchOutcome.{SearchOutcome}
+use Rattle.search.specs.declared.SearchOutcome.the-variants.{Found as CodeFound}
 use Rattle.list_of_two.specs.declared.Way.{Way}
 use Rattle.list_of_two.specs.Ways.{choiceOf}
 use Rattle.questions.specs.Questions.{firstAbove}
-use Rattle.searches.specs.Searches.{number, place, word, count, low, Answered, outcomeAnswer}
+use Rattle.searches.specs.Searches.{number, place, word, count, low, Answered, outcomeAnswer, asAnswer}
 use Rattle.searches.specs.declared.SearchAnswer.{SearchAnswer}
-use Rattle.searches.specs.declared.SearchAnswer.the-variants.{Found, Refused}
+use Rattle.searches.specs.declared.SearchAnswer.the-variants.{Found}
 use Rattle.questions.proofs.FirstAbove.{below-first}
 
-pub found-answer : (o : SearchResult WordFound) (w c : ℕ) (z y : ℤ) → CodeFound w c z ≡ codeOutcome o → y ≡ z → Found w c y ≡ outcomeAnswer o
-unfolding codeOutcome outcomeAnswer
-found-answer (answer v d) w c z y e same = ap (Found w c) same ∙ cc
-found-answer (spent d) w c z y e same = let never : _≡_ {A = ℕ} 0 1 = cc in absurd (omega arith)
+-- a word that was found, with its low point read back from its bits
+pub found-answer : {found : SearchOutcome} (w c : ℕ) (z y : ℤ) → found ≡ CodeFound w c z → y ≡ z → Found w c y ≡ asAnswer found
+found-answer w c z y e same = ap (Found w c) same ∙ ap asAnswer (sym e)
 
-pub spent-answer : (o : SearchResult WordFound) → CodeSpent ≡ codeOutcome o → Refused 9 0 ≡ outcomeAnswer o
+-- the outcome that the code has of a search is its answer
+pub answered-as : (o : SearchResult WordFound) {found : SearchOutcome} → found ≡ codeOutcome o → asAnswer found ≡ outcomeAnswer o
 unfolding codeOutcome outcomeAnswer
-spent-answer (answer v d) e = let never : _≡_ {A = ℕ} 0 1 = cc in absurd (omega arith)
-spent-answer (spent d) e = refl
+answered-as (answer w c) e = ap asAnswer e
+answered-as (spent c) e = ap asAnswer e
 
 -- the search in a way is that of the choice and limit that the way names
 pub by-its-way : (way : Way) (choice : Choice) (limit : ℕ) → choiceOf way ≡ choice → way .limit ≡ limit → (s : Search) (soft : List ℕ) (i : ℕ)

@@ -11,6 +11,8 @@ use Rattle.trellis.specs.Values.{levelValues}
 use Rattle.trellis.specs.Demand.{Search}
 use Rattle.trellis.specs.Trellis.{WordFound}
 use Rattle.trellis.specs.TwoWords.{Choice, thresholdAllowed, searchedBy}
+use Rattle.search.specs.declared.SearchOutcome.{SearchOutcome}
+use Rattle.search.specs.declared.SearchOutcome.the-variants.{Found as CodeFound, Spent as CodeSpent}
 use Rattle.questions.specs.Questions.{ask, firstAbove}
 use Rattle.searches.specs.declared.SearchAnswer.{SearchAnswer}
 use Rattle.searches.specs.declared.SearchAnswer.the-variants.{Found, Refused}
@@ -61,6 +63,11 @@ pub record Allowed (i : ℕ) (soft : List ℕ) (limit : ℕ) : Type 0 where
 unfoldable pub outcomeAnswer : SearchResult WordFound → SearchAnswer
 outcomeAnswer (answer w c) = Found (w .column) c (w .low)
 outcomeAnswer (spent c) = Refused 9 0
+
+-- the same of the outcome as the code has it
+abbrev pub asAnswer : SearchOutcome → SearchAnswer
+asAnswer (CodeFound w c z) = Found w c z
+asAnswer CodeSpent = Refused 9 0
 
 -- 1: 30 values; 3: the level; 4: the limit 1..2,000; 11: with list of two, its threshold; 5: each value 0..7; `refusal` gives what a no gives
 abbrev pub askSearch : {A : Type 0} → Choice → ℕ → List ℕ → ℕ → (ℕ → ℕ → A) → A → A

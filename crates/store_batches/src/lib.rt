@@ -42,7 +42,7 @@ fn search_allowed(
     let checks = [0u64; 30];
     let agreeing = [0i16; 8];
     let way = list_of_two::way_of(limit, true, false, 0);
-    searches::search_by_tables(
+    let found = list_of_two::search_by(
         sums,
         lens,
         bits,
@@ -53,7 +53,8 @@ fn search_allowed(
         &checks,
         &agreeing,
         way,
-    )
+    );
+    searches::as_answer(found)
 }
 
 // What the single supercode call answers, over arrays and masks that are lent.

@@ -34,7 +34,7 @@ fn search_allowed(
     let mut sums = [0i16; 2002];
     let mut lens = [0u8; 2002];
     let mut bits = [0u64; 2002];
-    searches::search_by_tables(
+    let found = list_of_two::search_by(
         &mut sums,
         &mut lens,
         &mut bits,
@@ -45,7 +45,8 @@ fn search_allowed(
         &checks,
         &agreeing,
         way,
-    )
+    );
+    searches::as_answer(found)
 }
 
 // Either search, with list of two where `second` says so: the questions in their order, then the search.

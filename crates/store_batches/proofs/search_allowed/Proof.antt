@@ -5,7 +5,7 @@ use Prim.Native.Nat.{ℕ, _≤_}
 use Rattle.trellis.specs.TwoWords.{off}
 use Rattle.trellis.specs.Demand.{supercode}
 use Rattle.search.proofs.ShortSearch.{column-searchable}
-use Rattle.searches.proofs.Outcomes.{by-its-way}
+use Rattle.searches.proofs.Outcomes.{answered-as, by-its-way}
 use borrow.Author.Needs.{needs}
 use Rattle.store_batches.proofs.search_allowed.Statement.{statement}
 use Rattle.store_batches.proofs.search_allowed.Tie as tie
@@ -16,24 +16,27 @@ level-values-requires c κs = search needs
 way-of-requires : tie.Need-way-of-requires
 way-of-requires c κs = search needs
 
-mul-search-by-tables : tie.Need-mul-search-by-tables
-mul-search-by-tables c = search needs
+mul-search-by : tie.Need-mul-search-by
+mul-search-by c = search needs
 
-index-1-search-by-tables : tie.Need-index-1-search-by-tables
-index-1-search-by-tables c = search needs
+index-1-search-by : tie.Need-index-1-search-by
+index-1-search-by c = search needs
 
-add-search-by-tables : tie.Need-add-search-by-tables
-add-search-by-tables c = search needs
+add-search-by : tie.Need-add-search-by
+add-search-by c = search needs
 
-mul-search-by-tables-2 : tie.Need-mul-search-by-tables-2
-mul-search-by-tables-2 c = search needs
+mul-search-by-2 : tie.Need-mul-search-by-2
+mul-search-by-2 c = search needs
 
-index-1-search-by-tables-2 : tie.Need-index-1-search-by-tables-2
-index-1-search-by-tables-2 c = search needs
+index-1-search-by-2 : tie.Need-index-1-search-by-2
+index-1-search-by-2 c = search needs
 
-search-by-tables-requires : tie.Need-search-by-tables-requires
-search-by-tables-requires c κs =
-    let way = c .before .before .before .before .before .before .before .before in
+slice-aggregate-search-by : tie.Need-slice-aggregate-search-by
+slice-aggregate-search-by c = search needs
+
+search-by-requires : tie.Need-search-by-requires
+search-by-requires c κs =
+    let way = c .before .before .before .before .before .before .before .before .before .before in
     let values = way .before in
     let start = values .before .before in
     let allowed = start .pre .2 in
@@ -45,16 +48,20 @@ search-by-tables-requires c κs =
       ),
     )
 
+as-answer-requires : tie.Need-as-answer-requires
+as-answer-requires c κs = search needs
+
 returns : tie.Need-returns
 returns c =
-    let way = c .before .before .before .before .before .before .before .before .before in
+    let found = c .before in
+    let way = found .before .before .before .before .before .before .before .before .before .before .before in
     let values = way .before in
     let start = values .before .before in
     let allowed = start .pre .2 in
     let at = start .pre .1 .each (start .args .level) (allowed .level) in
     let is = way .way-of .ensures in (
-      c .search-by-tables .ensures .0,
-      c .search-by-tables .ensures .1 supercode (start .args .level) (allowed .level) (record { masks = at .masks; lefts = at .lefts; rights = at .rights; values = values .level-values .ensures }) (λ with-list. absurd (true≢false (sym with-list ∙ is .1)))
+      found .search-by .ensures .0,
+      c .as-answer .ensures ∙ answered-as _ (found .search-by .ensures .1 supercode (start .args .level) (allowed .level) (record { masks = at .masks; lefts = at .lefts; rights = at .rights; values = values .level-values .ensures }) (λ with-list. absurd (true≢false (sym with-list ∙ is .1))))
           ∙ by-its-way (way .way-of .result) off (start .args .limit) (is .0 .2) (is .0 .0) supercode (start .args .column .now) (start .args .level),
     )
 
@@ -64,10 +71,12 @@ search-allowed-spec =
     (tie.spec
     level-values-requires
     way-of-requires
-    mul-search-by-tables
-    index-1-search-by-tables
-    add-search-by-tables
-    mul-search-by-tables-2
-    index-1-search-by-tables-2
-    search-by-tables-requires
+    mul-search-by
+    index-1-search-by
+    add-search-by
+    mul-search-by-2
+    index-1-search-by-2
+    slice-aggregate-search-by
+    search-by-requires
+    as-answer-requires
     returns)

@@ -5,7 +5,8 @@ use Rattle.trellis.specs.TwoWords.{thresholdAllowed}
 use Rattle.search.specs.Outcomes.{searchOf}
 use Rattle.search.proofs.ShortSearch.{column-searchable, level-table-near}
 use Rattle.list_of_two.proofs.Thresholds.{handed-on}
-use Rattle.searches.proofs.Outcomes.{by-its-way}
+use Rattle.searches.proofs.Outcomes.{answered-as, by-its-way}
+use borrow.Author.Needs.{needs}
 use Rattle.store_searches.proofs.search_allowed.Statement.{statement}
 use Rattle.store_searches.proofs.search_allowed.Tie as tie
 
@@ -23,8 +24,17 @@ way-of-requires c κs =
     let start = c .before .before .before .before .before .before .before .before .before in
     ap thresholdAllowed (handed-on (start .args .second) (start .args .threshold) (start .fits .threshold)) ∙ start .pre .1
 
-search-by-tables-requires : tie.Need-search-by-tables-requires
-search-by-tables-requires c κs =
+slice-aggregate-search-by : tie.Need-slice-aggregate-search-by
+slice-aggregate-search-by c = search needs
+
+slice-aggregate-search-by-2 : tie.Need-slice-aggregate-search-by-2
+slice-aggregate-search-by-2 c = search needs
+
+slice-aggregate-search-by-3 : tie.Need-slice-aggregate-search-by-3
+slice-aggregate-search-by-3 c = search needs
+
+search-by-requires : tie.Need-search-by-requires
+search-by-requires c κs =
     let way = c .before .before .before .before .before .before .before .before in
     let hard = way .before .before .before in
     let made = hard .before .before .before .before .before in
@@ -37,16 +47,20 @@ search-by-tables-requires c κs =
       ),
     )
 
+as-answer-requires : tie.Need-as-answer-requires
+as-answer-requires c κs = search needs
+
 returns : tie.Need-returns
 returns c =
-    let way = c .before .before .before .before .before .before .before .before .before in
+    let found = c .before in
+    let way = found .before .before .before .before .before .before .before .before .before in
     let hard = way .before .before .before in
     let made = hard .before .before .before .before .before in
     let start = made .before .before in
     let allowed = start .pre .0 in
     let search = searchOf (start .args .in-supercodes) in
     let is = way .way-of .ensures in
-    c .search-by-tables .ensures .1 search (start .args .level) (allowed .level) (made .tables-of .ensures) (λ with-list. hard .tables-of2 .ensures .2 (sym (is .1) ∙ with-list))
+    c .as-answer .ensures ∙ answered-as _ (found .search-by .ensures .1 search (start .args .level) (allowed .level) (made .tables-of .ensures) (λ with-list. hard .tables-of2 .ensures .2 (sym (is .1) ∙ with-list)))
     ∙ by-its-way (way .way-of .result) _ _ (is .0 .2 ∙ handed-on (start .args .second) (start .args .threshold) (start .fits .threshold)) (is .0 .0) search (start .args .soft .now) (start .args .level)
 
 pub search-allowed-spec : {M : Type 1} → statement M
@@ -56,5 +70,9 @@ search-allowed-spec =
     tables-of-requires
     tables-of-requires-2
     way-of-requires
-    search-by-tables-requires
+    slice-aggregate-search-by
+    slice-aggregate-search-by-2
+    slice-aggregate-search-by-3
+    search-by-requires
+    as-answer-requires
     returns)
