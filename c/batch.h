@@ -13,7 +13,7 @@
    ANSWER. Number and place are 0, and word, count and low point are filled in. Level and first stay as they were.
 
    REFUSALS. The call itself refuses nothing. A refused job gets the number of the first question that was answered no, and where; its other fields keep
-   what they held. The questions are asked of each job in this order:
+   what they held, so look at the number before word, count and low. The questions are asked of each job in this order:
 
        BATCH_OUTSIDE   12   do its 30 bytes lie in the buffer?
        BATCH_LEVEL      3   is its level 0..3?
@@ -68,7 +68,7 @@ typedef struct {
 } batch_job;
 
 /* Does the jobs of a list on the columns of a buffer, with one limit, by the supercode search. */
-void search_batch(const uint8_t *soft, size_t count, batch_job *jobs, size_t job_count, uint64_t limit);
+void search_batch(const uint8_t *soft, size_t soft_len, batch_job *jobs, size_t jobs_len, uint64_t limit);
 
 #ifdef __cplusplus
 }

@@ -21,7 +21,8 @@ use Rattle.trellis.proofs.Order.{bit-below}
 use Rattle.trellis.proofs.Sums.{add-near, Near, level-values-near}
 use Rattle.stack.proofs.Sums.{near-fits}
 use Rattle.extension.specs.Steps.{TableOf, tableOf}
-use Rattle.search.specs.Outcomes.{SupercodesAt, SupercodesBelow}
+use Rattle.trellis.specs.Demand.{supercode}
+use Rattle.search.specs.Outcomes.{TablesFor, SupercodesAt, SupercodesBelow}
 
 pub table-of : (vs : Values) → TableOf vs (tableOf vs)
 table-of vs = record {
@@ -100,3 +101,7 @@ one-level-more n tables left right few below at = record {
 
     kept : (j : ℕ) → (j ≡ n → ⊥) → (j ≡ n + 4 → ⊥) → getD after j [] ≡ getD tables j []
     kept j one two = getD-set-other first (n + 4) j right [] two ∙ getD-set-other tables n j left [] one
+
+-- with the level's values they are the tables of the supercode search
+pub supercode-tables : (i : ℕ) (tables : List (List ℕ)) (table : List ℤ) → i < 4 → SupercodesBelow 4 tables → table ≡ tableOf (levelValues i) → TablesFor supercode i (getD tables i []) (getD tables (i + 4) []) table
+supercode-tables i tables table h all values = let at = all .each i h in record { masks = at .masks; lefts = at .lefts; rights = at .rights; values = values }

@@ -64,11 +64,6 @@ unfoldable pub outcomeAnswer : SearchResult WordFound → SearchAnswer
 outcomeAnswer (answer w c) = Found (w .column) c (w .low)
 outcomeAnswer (spent c) = Refused 9 0
 
--- the same of the outcome as the code has it
-abbrev pub asAnswer : SearchOutcome → SearchAnswer
-asAnswer (CodeFound w c z) = Found w c z
-asAnswer CodeSpent = Refused 9 0
-
 -- 1: 30 values; 3: the level; 4: the limit 1..2,000; 11: with list of two, its threshold; 5: each value 0..7; `refusal` gives what a no gives
 abbrev pub askSearch : {A : Type 0} → Choice → ℕ → List ℕ → ℕ → (ℕ → ℕ → A) → A → A
 askSearch choice level soft limit refusal next =
@@ -83,3 +78,10 @@ askSearch choice level soft limit refusal next =
 -- these questions, then 9
 abbrev pub searchAnswer : Choice → Search → ℕ → List ℕ → ℕ → SearchAnswer
 searchAnswer choice s level soft limit = askSearch choice level soft limit Refused (outcomeAnswer (searchedBy choice s short (levelValues level) limit soft level))
+
+-- ---- For the code's contracts
+
+-- the outcome of the code's search as its answer
+abbrev pub asAnswer : SearchOutcome → SearchAnswer
+asAnswer (CodeFound w c z) = Found w c z
+asAnswer CodeSpent = Refused 9 0

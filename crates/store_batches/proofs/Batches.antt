@@ -24,7 +24,7 @@ use Rattle.trellis.specs.TwoWords.{off, searchedBy}
 use Rattle.questions.specs.Questions.{firstAbove}
 use Rattle.questions.proofs.EitherWay.{either}
 use Rattle.questions.proofs.FirstAbove.{below-first, first-is-above}
-use Rattle.searches.specs.Searches.{number, place, Answered, Allowed, outcomeAnswer, searchAnswer}
+use Rattle.searches.specs.Searches.{number, Answered, Allowed, outcomeAnswer, searchAnswer}
 use Rattle.searches.specs.declared.SearchAnswer.{SearchAnswer}
 use Rattle.searches.specs.declared.SearchAnswer.the-variants.{Found, Refused}
 use Rattle.store_searches.proofs.Calls.{call-answers-within-the-limit, call-refuses-above-the-limit}

@@ -1,4 +1,4 @@
--- 02, point 2: what a batch leaves in a job, in 01's number and place. Assumes nothing.
+-- 02, point 2: what a refused job holds, and the first bad value of its column. Assumes nothing.
 use mathlib.Core.List.{List}
 use mathlib.Core.Path.{_≡_}
 use Prim.Native.Nat.{ℕ, _+_, _≤_, _<_}

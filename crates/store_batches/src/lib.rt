@@ -1,4 +1,7 @@
 // A batch of columns: 02, point 2. Each job is searched as the single supercode call searches its column, in list order.
+//
+// The argument. A job is asked and searched by the functions of the single call, so its answer is that call's. The search asks nothing of what its arrays hold, so one set of them serves the whole list.
+// The loop over the list only hands each job on and puts it back: what is proved of it by hand is no more than that.
 ghost use mathlib.Core.Path.{_≡_};
 ghost use mathlib.Core.List.{map};
 ghost use Rattle.column.specs.Shape.{short};
@@ -12,7 +15,7 @@ ghost use Rattle.store_batches.specs.Jobs.{jobAnswer, noted, doneJob};
 use questions::Outcome;
 use searches::SearchAnswer;
 
-// A job: the level and the first byte of its column in the soft buffer, and its answer: the number and place, and of a column that was found the word, the count and the low point.
+// A job: the level and the first byte of its column in the soft buffer, and its answer: the number and place and, where a word was found, the word, the count and the low point.
 #[repr(C)]
 pub struct Job {
     pub level: u64,
@@ -39,9 +42,10 @@ fn search_allowed(
     ensures { λ r. ⌜ r ≡ outcomeAnswer (searchedBy off supercode short (levelValues level) limit (now (column .entry)) level) ⌝ }
 {
     let values = search::short_page::level_values(level);
+    let way = list_of_two::way_of(limit, true, false, 0);
+    // without list of two no hard reading is made, and these are not read
     let checks = [0u64; 30];
     let agreeing = [0i16; 8];
-    let way = list_of_two::way_of(limit, true, false, 0);
     let found = list_of_two::search_by(
         sums,
         lens,
@@ -146,7 +150,7 @@ fn run_job(
     note(job, answer)
 }
 
-// A batch: each job of the list is searched on the 30 bytes of `soft` from its first byte on, in list order, with the call's limit; buffer and list may have any length, and jobs may overlap.
+// A batch: each job of the list is searched on the 30 bytes of `soft` from its first byte on, in list order, with the call's limit; buffer and list may have any length, and columns may overlap.
 // A job is refused by 12, 3, 4, 5 or 9: it gets the number and place, and keeps the rest. The call itself refuses nothing.
 #[no_mangle]
 pub extern "C" fn search_batch(soft: &[u8], jobs: &mut [Job], limit: u64)

@@ -4,6 +4,7 @@ use mathlib.Core.Path.{sym, _∙_, subst⁻¹}
 use Prim.Native.Nat.{ℕ, _≤_}
 use Rattle.trellis.specs.TwoWords.{off}
 use Rattle.trellis.specs.Demand.{supercode}
+use Rattle.search.proofs.Tables.{supercode-tables}
 use Rattle.search.proofs.ShortSearch.{column-searchable}
 use Rattle.searches.proofs.Outcomes.{answered-as, by-its-way}
 use borrow.Author.Needs.{needs}
@@ -40,10 +41,10 @@ search-by-requires c κs =
     let values = way .before in
     let start = values .before .before in
     let allowed = start .pre .2 in
-    let at = start .pre .1 .each (start .args .level) (allowed .level) in (
+    let tables = supercode-tables (start .args .level) (start .args .masks .now) _ (allowed .level) (start .pre .1) (values .level-values .ensures) in (
       subst⁻¹ (λ (l : ℕ). l ≤ 2000) (way .way-of .ensures .0 .0) (allowed .most),
       (
-        column-searchable supercode (start .args .level) (allowed .level) (start .args .column .now) _ _ _ (allowed .full) (allowed .range) (record { masks = at .masks; lefts = at .lefts; rights = at .rights; values = values .level-values .ensures }),
+        column-searchable supercode (start .args .level) (allowed .level) (start .args .column .now) _ _ _ (allowed .full) (allowed .range) tables,
         ((start .args .level, allowed .level, λ with-list. absurd (true≢false (sym with-list ∙ way .way-of .ensures .1))), start .pre .0),
       ),
     )
@@ -58,10 +59,10 @@ returns c =
     let values = way .before in
     let start = values .before .before in
     let allowed = start .pre .2 in
-    let at = start .pre .1 .each (start .args .level) (allowed .level) in
+    let tables = supercode-tables (start .args .level) (start .args .masks .now) _ (allowed .level) (start .pre .1) (values .level-values .ensures) in
     let is = way .way-of .ensures in (
       found .search-by .ensures .0,
-      c .as-answer .ensures ∙ answered-as _ (found .search-by .ensures .1 supercode (start .args .level) (allowed .level) (record { masks = at .masks; lefts = at .lefts; rights = at .rights; values = values .level-values .ensures }) (λ with-list. absurd (true≢false (sym with-list ∙ is .1))))
+      c .as-answer .ensures ∙ answered-as _ (found .search-by .ensures .1 supercode (start .args .level) (allowed .level) tables (λ with-list. absurd (true≢false (sym with-list ∙ is .1))))
           ∙ by-its-way (way .way-of .result) off (start .args .limit) (is .0 .2) (is .0 .0) supercode (start .args .column .now) (start .args .level),
     )
 

@@ -1,4 +1,4 @@
--- `store_batches::search_batch` meets its contract: a walk of its MIR, by hand. One thin loop: each turn takes a job out of the open slice, lends the arrays of the stack to `run_job`, and puts the answer in the job's place.
+-- `store_batches::search_batch` meets its contract: a walk of its MIR, by hand. One thin loop: each turn takes a job out of the open slice, lends the arrays of the stack to `run_job`, and puts the job back, done.
 -- The borrow of the jobs is opened once, before the loop, and closed once, after it; the masks are lent over the whole loop. Assumes nothing.
 mod Types
 mod Call
@@ -74,7 +74,7 @@ use Rattle.store_batches.proofs.search_batch as all
 use Rattle.store_batches.proofs.search_batch.Statement as stated
 use Rattle.store_batches.proofs.search_batch.Code as code
 use Rattle.store_batches.proofs.search_batch.Code.Mir as m
-use Rattle.store_batches.proofs.search_batch.Proof.Types.{R, table, masksT, stayed, none, byteRef, jobRef, sumsTy, lensTy, bitsTy, masksTy, Tabled, One}
+use Rattle.store_batches.proofs.search_batch.Proof.Types.{R, table, masksT, stayed, none, byteRef, jobRef, sumsTy, lensTy, bitsTy, masksTy, Tabled, One, softOwn}
 use Rattle.store_batches.proofs.search_batch.Proof.Call as call
 
 module _ {M : Type 1} (𝓤 : URA M) (H : Heap 𝓤) (A : Atoms 𝓤) (W : Given 𝓤 H A) (mem : Memory → SProp 𝓤) (run : Routine → Fun 𝓤)
@@ -107,7 +107,7 @@ module _ {M : Type 1} (𝓤 : URA M) (H : Heap 𝓤) (A : Atoms 𝓤) (W : Given
   Post = walkOf 𝓤 H A all.ended stayed (all.clauses 𝓤 H A mem run) .post (((κ₀, (κ₁, tt)), (q₀, (q₁, tt)), tt, a, vals), tt)
 
   abbrev Soft : Fml
-  Soft = ShrSlice (named 0) κ₀ u8 .own s (sv ∷ [])
+  Soft = softOwn κ₀ s
 
   abbrev code-of : List Job → Gv
   code-of l = codedHoleys R .code (heres R l)

@@ -21,7 +21,7 @@ use denote.Array.{Array}
 use denote.Plain.{uint-makes}
 use denote.Builtin.{u8, u64, i16}
 use denote.Ref.{RefT, MutRef, ShrRef, now}
-use denote.Slice.{sliceVal, ShrSlice}
+use denote.Slice.{sliceVal}
 use denote.Steps.{owned, nothing}
 use denote.Triple.Clauses.{ensured, lasts}
 use denote.Triple.Walked.{says}
@@ -31,14 +31,11 @@ use Rattle.store_batches.specs.Jobs.{doneJob}
 use Rattle.store_batches.specs.declared.Job.{Job}
 use Rattle.store_batches.proofs.Lending.{to-block}
 use Rattle.store_batches.proofs.run_job as one
-use Rattle.store_batches.proofs.search_batch.Proof.Types.{R, masksT, One}
+use Rattle.store_batches.proofs.search_batch.Proof.Types.{R, masksT, softOwn, One}
 
 module _ {M : Type 1} (𝓤 : URA M) (H : Heap 𝓤) (A : Atoms 𝓤) (W : Given 𝓤 H A) (mem : Memory → SProp 𝓤) (run : Routine → Fun 𝓤) (κ₀ : Lft) (q₀ : Share) (s : RefT (List ℕ)) (c : ℕ) (c-fits : c < 2 ^ 64)
     (l₄ l₅ l₆ l₇ μ : ℕ) (γₘ : GName) (ms : List (List ℕ)) (right : SupercodesBelow 4 ms) where
-  -- the soft values, and the masks at their local
-  abbrev pub Soft : Fml
-  Soft = ShrSlice (named 0) κ₀ u8 .own s (sliceVal (s .ptr) (length (s .now)) ∷ [])
-
+  -- the masks at their local
   abbrev pub Masks : Fml
   Masks = ShrRef (named 3) (μ ∷ []) masksT .own (to-block l₇ γₘ ms) (vptr l₇ 0 ∷ [])
 
@@ -55,7 +52,7 @@ module _ {M : Type 1} (𝓤 : URA M) (H : Heap 𝓤) (A : Atoms 𝓤) (W : Given
     abbrev pub Lent : List (Item 𝓤)
     Lent = ‵ (flft (α₁ ∷ []) fullShare) ∷ ‵ (flft (α₂ ∷ []) fullShare) ∷ ‵ (flft (α₃ ∷ []) fullShare) ∷ ‵ (flft (μ ∷ []) fullShare) ∷ ‵ (flft κ₀ q₀)
         ∷ ‵ (MutRef (named 0) (α₁ ∷ []) (Array i16 2002) .own (to-block l₄ γ₁ z₁) (vptr l₄ 0 ∷ [])) ∷ ‵ (MutRef (named 1) (α₂ ∷ []) (Array u8 2002) .own (to-block l₅ γ₂ z₂) (vptr l₅ 0 ∷ []))
-        ∷ ‵ (MutRef (named 2) (α₃ ∷ []) (Array u64 2002) .own (to-block l₆ γ₃ z₃) (vptr l₆ 0 ∷ [])) ∷ ‵ Masks ∷ ‵ Soft ∷ ‵ (R .own d (v ∷ [])) ∷ []
+        ∷ ‵ (MutRef (named 2) (α₃ ∷ []) (Array u64 2002) .own (to-block l₆ γ₃ z₃) (vptr l₆ 0 ∷ [])) ∷ ‵ Masks ∷ ‵ (softOwn κ₀ s) ∷ ‵ (R .own d (v ∷ [])) ∷ []
 
     pub goes-one : Room z₁ z₂ z₃ → ent 𝓤 (⋆ 𝓤 H A Lent) (One 𝓤 H A mem run .pre to-one)
     goes-one room =
