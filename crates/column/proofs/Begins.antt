@@ -51,6 +51,15 @@ module _ (n : ℕ) (C : Code) where
   pub prefix-exists : (t q : ℕ) → t < n → Exists n C (suc t) q → Exists n C t (q / 2)
   prefix-exists t q h e = (e .0, e .1, sym (half t (e .0) h) ∙ ap (λ (x : ℕ). x / 2) (e .2))
 
+  -- a path that begins a word has an extension that does, as long as the word has bits to come
+  pub some-extension-exists : (t p : ℕ) → t < n → Exists n C t p → (b : ℕ) × (b < 2) × Exists n C (suc t) (p * 2 + b)
+  some-extension-exists t p h e =
+      let newest : e .0 / 2 ^ (n - suc t) ≡ p * 2 + e .0 / 2 ^ (n - suc t) % 2 = longer (e .0 / 2 ^ (n - suc t)) p (half t (e .0) h ∙ e .2) in
+      (e .0 / 2 ^ (n - suc t) % 2, omega arith, (e .0, e .1, newest))
+    where
+      longer : (q p : ℕ) → q / 2 ≡ p → q ≡ p * 2 + q % 2
+      longer q p k = omega arith
+
   pub zero-exists : (t : ℕ) → Exists n C t 0
   zero-exists t = (0, (pow-pos n, (0, product-zero-l (C .generator))), Nat.zero-div (2 ^ (n - t)))
 

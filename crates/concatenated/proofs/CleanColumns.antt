@@ -28,7 +28,8 @@ use Rattle.trellis.proofs.HardPath.{readBit, read-bit-is-reading, hard-path-len
 use Rattle.concatenated.specs.Readers.{readerOf}
 use Rattle.concatenated.specs.Clean.{AgreeingIsAbove, FindsTheReading, TakesTheReading}
 use Rattle.concatenated.proofs.HardReading.{reading-is-a-codeword}
-use Rattle.concatenated.proofs.Integers.{same-before, sum-smaller}
+use Rattle.paths.proofs.Integers.{same-before}
+use Rattle.concatenated.proofs.Integers.{sum-smaller}
 use Rattle.concatenated.proofs.Searches.{found-is-ahead-of-all}
 use Rattle.concatenated.proofs.TwoWords.{hard-reading-is-found}
 use Rattle.concatenated.proofs.CleanPages.{taking-is-finding}

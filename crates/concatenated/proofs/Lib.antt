@@ -13,6 +13,7 @@ pub mod Readings
 pub mod HardReading
 pub mod TwoWords
 pub mod DecodersAgree
+pub mod Chip
 pub mod Answers
 pub mod CleanPages
 pub mod WrittenBits

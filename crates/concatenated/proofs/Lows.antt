@@ -13,8 +13,6 @@ use Rattle.paths.proofs.Low.{lowest-is, lowest-from-above}
 use Rattle.trellis.specs.Values.{levelValues}
 use Rattle.trellis.specs.Trellis.{WordFound}
 use Rattle.trellis.specs.Keys.{noneTaken}
-use Rattle.trellis.specs.Demand.{Search as Kind}
-use Rattle.trellis.specs.TwoWords.{Choice}
 use Rattle.trellis.proofs.Sums.{near-is-not-above, level-values-near}
 use Rattle.trellis.proofs.Short.{searchable}
 use Rattle.reedsolomon.specs.Words.{InReach}
@@ -24,11 +22,10 @@ use Rattle.concatenated.specs.Format.{Format, shortPage, shortRoots}
 use Rattle.concatenated.specs.Outer.{RowDecoder, RowEncoder, OuterLaws}
 use Rattle.concatenated.specs.Decode.{Reading, found, spent, Reader, mark, marks, lows, Level, level, answered, decoded, allLows, pageLow}
 use Rattle.concatenated.specs.OuterCode.{shortOuter, shortEncoder, ShortCodeword}
-use Rattle.concatenated.specs.Readers.{shortReader}
 use Rattle.concatenated.proofs.Lists.{all-map, all-member, all-by-entries}
 use Rattle.concatenated.proofs.Groups.{flat-more, flat-all}
 use Rattle.concatenated.proofs.OuterJoint.{outer-laws}
-use Rattle.concatenated.proofs.Readings.{found-low-is-near, readers-read-words}
+use Rattle.concatenated.proofs.Readings.{ShortReadsWords, found-low-is-near}
 use Rattle.concatenated.proofs.Answers.{noLevel, answer-is-of-levels, reached-columns-are-all, changed-and-erased-are-e-and-s}
 
 -- a level's low points and its erased columns together are its columns
@@ -110,20 +107,20 @@ module _ (P : Format) (outer : RowDecoder) (encoded : RowEncoder) (Codeword : �
 
 -- ---- the short page
 
-module _ (choice : Choice) (kind : Kind) (limit : ℕ) (page : List (List ℕ)) (wide : length page ≡ 63) (ls : List Level) (n : ℕ) (e : decoded short shortOuter (shortReader choice kind limit) page ≡ answered ls n) where
+module _ (limit : ℕ) (read : Reader) (reads : ShortReadsWords limit read) (page : List (List ℕ)) (wide : length page ≡ 63) (ls : List Level) (n : ℕ) (e : decoded short shortOuter read page ≡ answered ls n) where
   few-roots : (i : ℕ) → i < 4 → shortRoots i < 63
   few-roots i h = omega (arith, at-most-30-roots i)
 
   pub short-levels-have-an-unerased-column : (i : ℕ) → i < 4 → (d : Level) → (total (getD ls i d .erased) < 63) × (length (getD ls i d .lows) + total (getD ls i d .erased) ≡ 63)
   short-levels-have-an-unerased-column i h =
-      every-level-has-an-unerased-column shortPage shortOuter shortEncoder ShortCodeword outer-laws (shortReader choice kind limit) page wide ls n e i h (few-roots i h)
+      every-level-has-an-unerased-column shortPage shortOuter shortEncoder ShortCodeword outer-laws read page wide ls n e i h (few-roots i h)
 
   pub short-page-low-is-lowest : Lowest (allLows ls) (pageLow ls)
-  short-page-low-is-lowest = page-low-is-lowest shortPage shortOuter shortEncoder ShortCodeword outer-laws (shortReader choice kind limit) page wide ls n e (lit< tt) few-roots
+  short-page-low-is-lowest = page-low-is-lowest shortPage shortOuter shortEncoder ShortCodeword outer-laws read page wide ls n e (lit< tt) few-roots
 
   -- each low point lies within 60 a bit of zero
   lows-near : All (λ z. natAbs z ≤ 1800) (allLows ls)
-  lows-near = low-points-of-an-answer short shortOuter (shortReader choice kind limit) page (λ z. natAbs z ≤ 1800) (λ i h c w m found. found-low-is-near short i (searchable i h) levelValues limit (shortReader choice kind limit) (readers-read-words short i (searchable i h) levelValues limit choice kind) c 60 (level-values-near i h) w m found) ls n e
+  lows-near = low-points-of-an-answer short shortOuter read page (λ z. natAbs z ≤ 1800) (λ i h c w m found. found-low-is-near short i (searchable i h) levelValues limit read (reads i h) c 60 (level-values-near i h) w m found) ls n e
 
   pub short-page-low-is-near : natAbs (pageLow ls) ≤ 1800
   short-page-low-is-near = all-member (λ z. natAbs z ≤ 1800) (allLows ls) lows-near (pageLow ls) (short-page-low-is-lowest .is-one)
@@ -131,5 +128,5 @@ module _ (choice : Choice) (kind : Kind) (limit : ℕ) (page : List (List ℕ)) 
   -- so the lowest of them and of the largest number of 16 bits is the page's low point
   pub short-page-low-from : lowest-from noneTaken (allLows ls) ≡ pageLow ls
   short-page-low-from =
-      page-low-from shortPage shortOuter shortEncoder ShortCodeword outer-laws (shortReader choice kind limit) page wide ls n e (lit< tt) few-roots noneTaken
+      page-low-from shortPage shortOuter shortEncoder ShortCodeword outer-laws read page wide ls n e (lit< tt) few-roots noneTaken
       (all-map (allLows ls) (λ z near. near-is-not-above z 32767 (omega (arith, near))) lows-near)

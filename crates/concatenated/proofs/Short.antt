@@ -23,14 +23,14 @@ use Rattle.concatenated.specs.Format.{SoundFormat, shortPage, shortRoots
 use Rattle.concatenated.specs.Outer.{RowDecoder, RowEncoder, OuterLaws}
 use Rattle.concatenated.specs.Data.{digits}
 use Rattle.concatenated.specs.SoftPage.{Soft, softColumns}
-use Rattle.concatenated.specs.Decode.{Level, answered, decoded, rows, Reaches, AtEveryLevel}
+use Rattle.concatenated.specs.Decode.{Reader, Level, answered, decoded, rows, Reaches, AtEveryLevel}
 use Rattle.concatenated.specs.Written.{writtenRows, writtenPage, columnsOf, columnInBytes, bytesOfRows}
 use Rattle.concatenated.specs.Misread.{WithinReach}
 use Rattle.concatenated.specs.Readers.{shortReader, deadAhead, Apart, Agree, NoColumnSpent, NoneEnded, sumBelow}
 use Rattle.concatenated.specs.Clean.{ReadsAsWritten, BackUnchanged, BackUnharmed, TooManyUnread, NoSearchMade, ReadsAs, FindsTheReading, AgreeingIsAbove}
 use Rattle.concatenated.proofs.Digits.{Below}
 use Rattle.concatenated.proofs.Encoding.{page-in-bytes-length}
-use Rattle.concatenated.proofs.Integers.{same-after}
+use Rattle.paths.proofs.Integers.{same-after}
 use Rattle.concatenated.proofs.PageBack as PageBack
 use Rattle.concatenated.proofs.DecodersAgree as DecodersAgree
 use Rattle.concatenated.proofs.SoftPages.{as-many-columns, columns-are-soft}
@@ -79,13 +79,11 @@ module _ (outer : RowDecoder) (encoded : RowEncoder) (Codeword : ℕ → List �
   unfolding writtenPage
   written-page-length bytes = page-in-bytes-length shortPage (writtenRows shortPage encoded bytes)
 
-  -- demand 2: "A written page comes back wherever, at each level, twice the misread columns plus the unread ones stay within 30, 12, 6 and 4."
-  pub written-page-comes-back : (choice : Choice) (kind : Kind) (limit : ℕ) (bytes : List ℕ) → length bytes ≡ 150 → Below 256 bytes → (soft : List ℕ)
-      → WithinReach shortPage outer (shortReader choice kind limit) (columnsOf 63 (writtenRows shortPage encoded bytes)) (softColumns shortPage soft)
-      → (ls : List Level) × (n : ℕ) × (decoded short outer (shortReader choice kind limit) (softColumns shortPage soft) ≡ answered ls n)
-      × (rows ls ≡ writtenRows shortPage encoded bytes) × (bytesOfRows shortPage (rows ls) ≡ bytes)
-  written-page-comes-back choice kind limit bytes full are-bytes =
-      PageBack.written-soft-page-comes-back shortPage short-page-sound outer encoded Codeword laws (shortReader choice kind limit) bytes full are-bytes
+  -- demand 2: "A written page comes back wherever, at each level, twice the misread columns plus the unread ones stay within 30, 12, 6 and 4.", whatever the columns are read by
+  pub written-page-comes-back : (read : Reader) (bytes : List ℕ) → length bytes ≡ 150 → Below 256 bytes → (soft : List ℕ)
+      → WithinReach shortPage outer read (columnsOf 63 (writtenRows shortPage encoded bytes)) (softColumns shortPage soft)
+      → (ls : List Level) × (n : ℕ) × (decoded short outer read (softColumns shortPage soft) ≡ answered ls n) × (rows ls ≡ writtenRows shortPage encoded bytes) × (bytesOfRows shortPage (rows ls) ≡ bytes)
+  written-page-comes-back read bytes full are-bytes = PageBack.written-soft-page-comes-back shortPage short-page-sound outer encoded Codeword laws read bytes full are-bytes
 
   -- 02, point 12: a written page in which "each soft value reads as the written bit, at any sureness"
   module _ (bytes : List ℕ) (full : length bytes ≡ 150) (are-bytes : Below 256 bytes) (soft : List ℕ) (long : length soft ≡ 1890) (values-soft : Soft soft)

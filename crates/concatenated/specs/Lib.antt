@@ -9,6 +9,7 @@ pub mod Written
 pub mod Symbols
 pub mod Misread
 pub mod Readers
+pub mod Chip
 pub mod Clean
 pub mod Flags
 pub mod Places

@@ -64,7 +64,7 @@ abbrev pub flag : ℕ → Bool
 flag zero = false
 flag (suc k) = true
 
-flag-other : (t u : ℕ) → t < 2 → u ≡ 1 - t → flag t ≡ flag u → ⊥
+pub flag-other : (t u : ℕ) → t < 2 → u ≡ 1 - t → flag t ≡ flag u → ⊥
 flag-other zero zero h e k = omega arith
 flag-other zero (suc u) h e k = false≢true k
 flag-other (suc zero) zero h e k = true≢false k
@@ -79,10 +79,10 @@ pub advanced-at : (N : Nodes Key) (size : ℕ) (f₀ f : ℕ → Key) (n m : ℕ
 advanced-at N size f₀ f n m p z l b h = subst⁻¹ (λ (y : ℤ). Advanced N size f₀ f n m p (key z l b) → Advanced N size f₀ f n m p (key y l b)) (toZ-ofZ h) (λ q. q)
 
 module _ (n : ℕ) (soft left right : List ℕ) (table : List ℤ) (g : Given n soft left right table) where
-  abbrev N : Nodes Key
+  abbrev pub N : Nodes Key
   N = tableNodes n table soft left right
 
-  abbrev E : Bool → Key → Key
+  abbrev pub E : Bool → Key → Key
   E = tableExtension table soft
 
   -- ---- the extension by a bit
@@ -155,16 +155,16 @@ module _ (n : ℕ) (soft left right : List ℕ) (table : List ℤ) (g : Given n 
   advanced-full f₀ f k m p y e held q = advanced-next f₀ f k m p y held (λ h xs. weigh-full E (keyPasses left right) (λ z. eqb (z .len) n) h p xs (eq-eqb (p .len) n e)) q
 
   module _ (s : ℤ) (l b : ℕ) (lt : l < n) (gp : Good n (key s l b)) (f₀ f : ℕ → Key) (k : ℕ) (held : Every (Held n) f₀ k) where
-    abbrev p : Key
+    abbrev pub p : Key
     p = key s l b
 
-    abbrev x : ℕ
+    abbrev pub x : ℕ
     x = getD left l 0
 
-    abbrev y : ℕ
+    abbrev pub y : ℕ
     y = getD right l 0
 
-    part : eqb l n ≡ false
+    pub part : eqb l n ≡ false
     part = ne-eqb l n (omega arith)
 
     checks : (t : Bool) → keyPasses left right (E t p) ≡ (eqb (parity x (b * 2 + bit t)) 0 && eqb (parity y (b * 2 + bit t)) 0)
@@ -176,7 +176,7 @@ module _ (n : ℕ) (soft left right : List ℕ) (table : List ℤ) (g : Given n 
     none : (m c : ℕ) → eqb m 0 ≡ true → eqb (parity m c) 0 ≡ true
     none m c h = eq-eqb (parity m c) 0 (ap (λ (i : ℕ). parity i c) (eqb-true m 0 h) ∙ parity-no-mask c)
 
-    passes-free : (eqb x 0 && eqb y 0) ≡ true → (t : Bool) → keyPasses left right (E t p) ≡ true
+    pub passes-free : (eqb x 0 && eqb y 0) ≡ true → (t : Bool) → keyPasses left right (E t p) ≡ true
     passes-free h t =
         let e = and-both (eqb x 0) (eqb y 0) h in
         checks t ∙ ap₂ _&&_ (none x (b * 2 + bit t) (e .0)) (none y (b * 2 + bit t) (e .1))
@@ -199,7 +199,7 @@ module _ (n : ℕ) (soft left right : List ℕ) (table : List ℤ) (g : Given n 
         other = flag-other t u ht eu
 
     module _ (u v : ℕ) (eu : u ≡ parity x (b * 2)) (ev : v ≡ parity y (b * 2)) (hu : u < 2) (hv : v < 2) where
-      passes : (t : ℕ) → t < 2 → keyPasses left right (E (flag t) p) ≡ let-in (eqb x 0) (eqb y 0) u v t
+      pub passes : (t : ℕ) → t < 2 → keyPasses left right (E (flag t) p) ≡ let-in (eqb x 0) (eqb y 0) u v t
       passes zero h = checks false ∙ ap₂ _&&_ (check x b u (g .left l lt) eu 0 h) (check y b v (g .right l lt) ev 0 h)
       passes (suc zero) h = checks true ∙ ap₂ _&&_ (check x b u (g .left l lt) eu 1 h) (check y b v (g .right l lt) ev 1 h)
       passes (suc (suc t)) h = absurd (omega arith)

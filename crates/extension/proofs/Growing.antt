@@ -11,7 +11,7 @@ use Rattle.stack.specs.Places.{Upto}
 use Rattle.stack.proofs.KeyOrder.{upto-not, upto-trans}
 
 module _ (E : Bool → Key → Key) (X F : Key → Bool) where
-  abbrev N : Nodes Key
+  abbrev pub N : Nodes Key
   N = record { extension = E; sum = λ k. k .sum; before = keyBefore; exists = X; full = F }
 
   after-cond : (t : Bool) (y : Key) (a b : List Key) → AllAfter Upto y a → AllAfter Upto y b → AllAfter Upto y (cond t a b)
@@ -27,7 +27,7 @@ module _ (E : Bool → Key → Key) (X F : Key → Bool) where
   after-all x y [] e a = tt
   after-all x y (z ∷ zs) e a = (upto-trans x y z e (a .0), after-all x y zs e (a .1))
 
-  ordered-insert : (x : Key) (st : List Key) → Ordered Upto st → Ordered Upto (insert N x st)
+  pub ordered-insert : (x : Key) (st : List Key) → Ordered Upto st → Ordered Upto (insert N x st)
   unfolding insert
   ordered-insert x [] o = (tt, tt)
   ordered-insert x (y ∷ ys) o = go (keyBefore y x) refl (ordered-insert x ys (o .1))
@@ -52,7 +52,7 @@ module _ (E : Bool → Key → Key) (X F : Key → Bool) where
       go true = o
       go false = ordered-push (E true p) _ (ordered-push (E false p) st o)
 
-  weigh-insert : (h : Key → ℕ) (x : Key) (xs : List Key) → weighList h (insert N x xs) ≡ h x + weighList h xs
+  pub weigh-insert : (h : Key → ℕ) (x : Key) (xs : List Key) → weighList h (insert N x xs) ≡ h x + weighList h xs
   unfolding weighList insert
   weigh-insert h x [] = refl
   weigh-insert h x (y ∷ ys) = go (keyBefore y x) (weigh-insert h x ys)

@@ -8,7 +8,7 @@
 // Every path on the stack has at most n bits, n at most 42, so that ranks order them (`Good`).
 // A sum is within 60 a bit of zero (`Good`), so it fits 16 bits.
 
-ghost use Prim.Native.Nat.{_+_, _-_, _*_, _<_, _≤_};
+ghost use Prim.Native.Nat.{_+_, _-_, _*_, _/_, _%_, _<_, _≤_};
 ghost use mathlib.Core.Bool.{cond, _&&_, not};
 ghost use mathlib.Core.Path.{_≡_};
 ghost use lib.Dec.{eqb};
@@ -63,7 +63,7 @@ fn take_next(
 
 // 1 where an odd number of a path's bits are under a mask, else 0. The halves are added first: a parity of 32 bits is two instructions, while two of
 // 64 bits at once are worked out as counts.
-fn parity_under(b: u64, m: u64) -> u64
+pub fn parity_under(b: u64, m: u64) -> u64
     ensures { λ r. ⌜ (r ≡ parity m b) × (r < 2) ⌝ }
 {
     let x = b & m;
@@ -71,15 +71,15 @@ fn parity_under(b: u64, m: u64) -> u64
     (u32::count_ones(y) % 2) as u64
 }
 
-// The bit whose extension is made first: the one that the soft value reads as, which is mostly the better one. Either may go first, so the contract leaves it open.
-fn read_bit(q: u8) -> u64
-    ensures { λ r. ⌜ r < 2 ⌝ }
+// The bit that a soft value reads as. Its extension is made first: it is mostly the better one.
+pub fn read_bit(q: u8) -> u64
+    ensures { λ r. ⌜ (r < 2) × (r ≡ q / 4 % 2) ⌝ }
 {
     (q / 4 % 2) as u64
 }
 
 // What a soft value gives to a bit.
-fn value_of(values: &[i16; 16], q: u8, bit: u64) -> i16
+pub fn value_of(values: &[i16; 16], q: u8, bit: u64) -> i16
     requires { ⌜ (q < 8) × (bit < 2) × (length (now values) ≡ 16) ⌝ }
     ensures { λ r. ⌜ r ≡ getD (now (values .entry)) (bit * 8 + q) (pos 0) ⌝ }
 {
@@ -88,7 +88,7 @@ fn value_of(values: &[i16; 16], q: u8, bit: u64) -> i16
 }
 
 // What a soft value gives to the other bit: its entry stands eight places away.
-fn other_value(values: &[i16; 16], q: u8, bit: u64) -> i16
+pub fn other_value(values: &[i16; 16], q: u8, bit: u64) -> i16
     requires { ⌜ (q < 8) × (bit < 2) × (length (now values) ≡ 16) ⌝ }
     ensures { λ r. ⌜ r ≡ getD (now (values .entry)) ((1 - bit) * 8 + q) (pos 0) ⌝ }
 {
@@ -97,7 +97,7 @@ fn other_value(values: &[i16; 16], q: u8, bit: u64) -> i16
 }
 
 // Whether no check is there.
-fn unchecked(x: u64, y: u64) -> bool
+pub fn unchecked(x: u64, y: u64) -> bool
     ensures { λ r. ⌜ r ≡ (eqb x 0 && eqb y 0) ⌝ }
 {
     if x == 0 {
@@ -107,7 +107,7 @@ fn unchecked(x: u64, y: u64) -> bool
 }
 
 // Whether two checks ask for different bits.
-fn conflicting(x: u64, y: u64, u: u64, v: u64) -> bool
+pub fn conflicting(x: u64, y: u64, u: u64, v: u64) -> bool
     ensures { λ r. ⌜ r ≡ (not (eqb x 0) && (not (eqb y 0) && not (eqb u v))) ⌝ }
 {
     if x == 0 {
@@ -120,7 +120,7 @@ fn conflicting(x: u64, y: u64, u: u64, v: u64) -> bool
 }
 
 // One of two bits, or 0: the bit that the checks ask for, where a check that is not there asks for 0.
-fn asked_bit(u: u64, v: u64) -> u64
+pub fn asked_bit(u: u64, v: u64) -> u64
     requires { ⌜ (u < 2) × (v < 2) ⌝ }
     ensures { λ r. ⌜ r ≡ cond (eqb u 0) v 1 ⌝ }
 {

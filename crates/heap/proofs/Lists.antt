@@ -3,7 +3,7 @@ use Prim.Native.Nat.{ℕ, zero, suc, _+_, _≤_, _<_}
 use native.Mathlib.Omega.{arith}
 use native.Mathlib.Decide.{ℕ-discrete}
 use mathlib.Core.List.{List, [], _∷_}
-use mathlib.Core.Path.{_≡_, refl, ap, subst, subst⁻¹}
+use mathlib.Core.Path.{_≡_, refl, ap, ap₂, subst, subst⁻¹}
 use Rattle.heap.specs.Heap.{weigh, Every, Heap}
 use Rattle.heap.specs.Holds.{weighList, AllAfter, Ordered, Holds}
 
@@ -36,6 +36,18 @@ module _ {A : Type 0} (R : A → A → Type 0) (eq : (a b : A) → Dec (a ≡ b)
 
   head-after : (x a : A) (xs : List A) → AllAfter R x xs → 0 < weighList (is a) (x ∷ xs) → R x a
   head-after x a xs aft h = found x a (x ∷ xs) (same x, aft) h
+
+  -- two lists in the order with the same elements are one
+  pub one-ordered-list : (xs ys : List A) → Ordered R xs → Ordered R ys → ((h : A → ℕ) → weighList h xs ≡ weighList h ys) → xs ≡ ys
+  unfolding weighList
+  one-ordered-list [] [] a b e = refl
+  one-ordered-list [] (y ∷ ys) a b e = absurd (omega (arith, e (λ z. 1)))
+  one-ordered-list (x ∷ xs) [] a b e = absurd (omega (arith, e (λ z. 1)))
+  one-ordered-list (x ∷ xs) (y ∷ ys) a b e =
+      let yx : R y x = head-after y x ys (b .0) (omega (arith, e (is x), is-self x)) in
+      let xy : R x y = head-after x y xs (a .0) (omega (arith, e (is y), is-self y)) in
+      let q : x ≡ y = anti x y xy yx in
+      ap₂ _∷_ q (one-ordered-list xs ys (a .1) (b .1) (λ h. omega (arith, e h, ap h q)))
 
   weigh-in : (f : ℕ → A) (n j : ℕ) → j < n → 0 < weigh (is (f j)) f n
   unfolding weigh

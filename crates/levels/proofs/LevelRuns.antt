@@ -55,7 +55,7 @@ each-more P xs i v h each w k l =
     (eq-or-lt-of-le l)
 
 -- a run that has stopped stays so
-stays : (read : Reader) (page : List (List ℕ)) (i l : ℕ) → run short shortOuter read page i ≡ stopped l → (k : ℕ) → run short shortOuter read page (i + k) ≡ stopped l
+pub stays : (read : Reader) (page : List (List ℕ)) (i l : ℕ) → run short shortOuter read page i ≡ stopped l → (k : ℕ) → run short shortOuter read page (i + k) ≡ stopped l
 unfolding run onward
 stays read page i l e zero = let z : i + 0 ≡ i = omega arith in ap (run short shortOuter read page) z ∙ e
 stays read page i l e (suc k) =
@@ -101,7 +101,7 @@ module _ (read : Reader) (page work held : List (List ℕ)) (changed erased : Li
                 el ∙ d .5 ∙ ap (λ (y : ℤ). lowest-from y (l .lows)) (f .low-so) ∙ sym (lowest-from-append noneTaken (allLows (f .levels)) (l .lows)) ∙ ap (lowest-from noneTaken) (sym (all-lows-more (f .levels) l));
           }
 
-  stop : out .settled ≡ false → run short shortOuter read page (suc i) ≡ stopped i
+  pub stop : out .settled ≡ false → run short shortOuter read page (suc i) ≡ stopped i
   unfolding LevelDone settle
   stop unsettled = go (decodedRow short shortOuter i (map (read i) work)) refl done
     where

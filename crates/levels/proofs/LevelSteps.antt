@@ -1,7 +1,7 @@
 -- One level put together: what is read, the row, the changed columns, the words taken off. Assumes nothing.
 use mathlib.Core.Bool.{Bool, true, false, true≢false}
 use mathlib.Core.List.{List, map}
-use mathlib.Core.Path.{_≡_, refl, sym, ap, ap₂, _∙_, subst⁻¹}
+use mathlib.Core.Path.{_≡_, refl, sym, ap, ap₂, _∙_, subst, subst⁻¹}
 use Prim.Native.Nat.{ℕ, _<_}
 use lib.IntN.{ℤ}
 use lib.ListN.{length, length-map}
@@ -13,40 +13,33 @@ use Rattle.reedsolomon.specs.Search.{WordOf, OuterAnswer, Found, NoneInReach}
 use Rattle.reedsolomon.specs.Row.{Symbols, outerAnswer, wordOf, isFound, RowDecoded}
 use Rattle.concatenated.specs.Format.{shortRoots}
 use Rattle.concatenated.specs.SoftPage.{Soft}
-use Rattle.concatenated.specs.Decode.{Reading, symbol, symbols, mark, marks, lows, changed, rowOff, decodedRow}
+use Rattle.concatenated.specs.Decode.{Reading, Reader, symbol, symbols, mark, marks, lows, changed, rowOff, decodedRow}
 use Rattle.concatenated.specs.Flags.{flag, isOne}
 use Rattle.concatenated.specs.Marks.{markOf}
 use Rattle.concatenated.specs.Arrays.{SoftColumns}
-use Rattle.search.specs.Outcomes.{searchOf}
-use Rattle.list_of_two.specs.declared.Way.{Way}
-use Rattle.list_of_two.specs.Ways.{choiceOf}
-use Rattle.readings.specs.Steps.{wayReader, RowRead}
+use Rattle.readings.specs.Steps.{RowRead}
 use Rattle.concatenated.specs.OuterCode.{shortOuter}
-use Rattle.levels.specs.Levels.{Ended}
+use Rattle.levels.specs.Levels.{Ended, LevelDone}
 use Rattle.levels.specs.declared.LevelOut.{LevelOut}
 use Rattle.reedsolomon.proofs.Answers.{word-is-of-symbols}
 use Rattle.concatenated.proofs.Digits.{below-is-word}
 use Rattle.concatenated.proofs.Columns.{row-off-length, row-off-all}
 use Rattle.concatenated.proofs.TakingOff.{off-length, column-stays-soft}
-use Rattle.concatenated.proofs.Readings.{symbols-in-range, readers-read-words}
+use Rattle.concatenated.proofs.Readings.{ShortReadsWords, symbols-in-range}
 use Rattle.concatenated.proofs.OuterJoint.{flags-back, outer-laws}
 
 -- a level's symbols and flags are as many as its columns
-pub read-long : (read : List ℕ → Reading) (i : ℕ) (work : List (List ℕ)) (z₀ : ℤ) (xs ms : List ℕ) (n : ℕ) (z : ℤ) → length work ≡ 63 → RowRead i (map read work) z₀ xs ms n z
-    → (length xs ≡ 63) × (length ms ≡ 63)
-read-long read i work z₀ xs ms n z e given =
-    let rs = map read work in
-    let long : length rs ≡ 63 = length-map work read ∙ e in (
-      ap length (given .symbols-are) ∙ length-map rs (symbol short i) ∙ long,
-      ap length (given .marks-are) ∙ length-map (marks rs) flag ∙ length-map rs mark ∙ long,
-    )
+pub as-many : (i : ℕ) (rs : List Reading) (z₀ : ℤ) (xs ms : List ℕ) (n : ℕ) (z : ℤ) → length rs ≡ 63 → RowRead i rs z₀ xs ms n z → (length xs ≡ 63) × (length ms ≡ 63)
+as-many i rs z₀ xs ms n z long given = (
+  ap length (given .symbols-are) ∙ length-map rs (symbol short i) ∙ long,
+  ap length (given .marks-are) ∙ length-map (marks rs) flag ∙ length-map rs mark ∙ long,
+)
 
 -- they are symbols
-pub read-symbols : (way : Way) (i : ℕ) → i < 4 → (work : List (List ℕ)) (z₀ : ℤ) (xs ms : List ℕ) (n : ℕ) (z : ℤ) → RowRead i (map (wayReader way i) work) z₀ xs ms n z → Symbols 6 xs
-read-symbols way i h work z₀ xs ms n z read =
-    let ys = symbols short i (map (wayReader way i) work) in
-    let reads = readers-read-words short i (searchable i h) levelValues (way .limit) (choiceOf way) (searchOf (way .«in_supercodes»)) in
-    subst⁻¹ (Symbols 6) (read .symbols-are) (word-is-of-symbols 6 (length ys) ys (below-is-word 64 ys (symbols-in-range short i (searchable i h) levelValues (way .limit) (wayReader way) reads work)))
+pub read-symbols : (limit : ℕ) (read : Reader) → ShortReadsWords limit read → (i : ℕ) → i < 4 → (work : List (List ℕ)) (z₀ : ℤ) (xs ms : List ℕ) (n : ℕ) (z : ℤ) → RowRead i (map (read i) work) z₀ xs ms n z → Symbols 6 xs
+read-symbols limit read reads i h work z₀ xs ms n z given =
+    let ys = symbols short i (map (read i) work) in
+    subst⁻¹ (Symbols 6) (given .symbols-are) (word-is-of-symbols 6 (length ys) ys (below-is-word 64 ys (symbols-in-range short i (searchable i h) levelValues limit read (reads i h) work)))
 
 -- the row of a level is a word of 63 symbols
 pub row-is-a-word : (i : ℕ) → i < 4 → (rs : List Reading) → length rs ≡ 63 → (r : List ℕ) → decodedRow short shortOuter i rs ≡ Found r → WordOf 64 63 r
@@ -108,3 +101,8 @@ module _ (i : ℕ) (h : i < 4) (rs : List Reading) (long : length rs ≡ 63) (z�
         e5 ∙ read .low-is ∙ ap (λ (x : ℤ). lowest-from x (lows rs)) start,
         e6,
       )
+
+-- a level is done, by the lowest low point before it as the caller has it
+pub level-done : (read : Reader) (i : ℕ) (z y : ℤ) (work after : List (List ℕ)) (out : LevelOut) → z ≡ y → Ended (decodedRow short shortOuter i (map (read i) work)) i (map (read i) work) z work out after → LevelDone read i y work out after
+unfolding LevelDone
+level-done read i z y work after out e = subst (λ (x : ℤ). Ended (decodedRow short shortOuter i (map (read i) work)) i (map (read i) work) x work out after) e

@@ -1,16 +1,18 @@
 // Pages: 01, "Rows and page". A page is written from 150 bytes of data (`encode_page`), and a soft page is decoded to them (`decode_page`): its corrected symbols are asked for (`ask_page`)
 // and packed (`pack`). Symbols from elsewhere are judged first (`lowest_no_word`).
 // What they give is defined in concatenated's specs/Written.antt and specs/Decode.antt, and in specs/Outcomes.antt.
+ghost use mathlib.Core.List.{List};
 ghost use mathlib.Core.Path.{_≡_};
-ghost use Prim.Native.Nat.{_<_, _≤_};
+ghost use Prim.Native.Nat.{ℕ, _<_, _≤_};
 ghost use lib.ListN.{length};
 ghost use Rattle.column.specs.Shape.{short};
 ghost use Rattle.concatenated.specs.Format.{shortPage};
 ghost use Rattle.concatenated.specs.SoftPage.{Soft, softColumns};
-ghost use Rattle.concatenated.specs.Decode.{decoded};
+ghost use Rattle.concatenated.specs.Decode.{Reader, decoded};
 ghost use Rattle.concatenated.specs.Written.{writtenPage, writtenRows, bytesOfRows};
 ghost use Rattle.concatenated.specs.Symbols.{rowsIn, lowestNoWord};
 ghost use Rattle.readings.specs.Steps.{wayReader};
+ghost use Rattle.levels.specs.Levels.{ColumnsDone};
 ghost use Rattle.concatenated.specs.OuterCode.{shortOuter, shortEncoder, isShortCodeword};
 ghost use Rattle.reedsolomon.specs.Search.{WordOf};
 ghost use Rattle.page.specs.Outcomes.{refusedPage, outcomeOf, dataBuffer, filled, symbolBuffer};
@@ -86,6 +88,39 @@ pub fn encode_page(data: &[u8], out: &mut [u8])
     writing::write_columns(&rows, out);
 }
 
+// What the levels of a page leave, told as its outcome: the report, and the corrected symbols, row after row; they are written only if there is an answer.
+pub fn told(
+    outcome: ColumnsOutcome,
+    held: &[[u8; 63]; 4],
+    changed: [u64; 4],
+    erased: [u64; 4],
+    symbols: &mut [u8],
+) -> PageOutcome
+    requires { ⌜ length (now symbols) ≡ 252 ⌝ }
+    requires { ⌜ ((read : Reader) × (page : List (List ℕ)) × ColumnsDone read page outcome (now held) changed erased) ⌝ }
+    ensures { λ r. ⌜ ((read : Reader) (page : List (List ℕ)) → ColumnsDone read page outcome (now (held .entry)) changed erased
+        → (r ≡ outcomeOf (decoded short shortOuter read page)) × (now (symbols .exit) ≡ filled symbolBuffer (now (symbols .entry)) (decoded short shortOuter read page))) ⌝ }
+{
+    match outcome {
+        ColumnsOutcome::Answered(steps, low) => {
+            data::row_after_row(held, symbols);
+            PageOutcome {
+                number: 0,
+                place: 0,
+                report: Report {
+                    steps: steps,
+                    changed: sets::totals(&changed),
+                    erased: sets::totals(&erased),
+                    changed_marks: changed,
+                    erased_marks: erased,
+                    low: low,
+                },
+            }
+        }
+        ColumnsOutcome::Refused(level) => refused(10, level),
+    }
+}
+
 // The outcome of a soft page, its columns searched in the given way, and its corrected symbols, row after row; they are written last, and only if there is an answer.
 pub fn ask_page(soft: &[u8], way: Way, symbols: &mut [u8]) -> PageOutcome
     requires { ⌜ (length (now soft) ≡ 1890) × Soft (now soft) × (way .limit ≤ 2000) × (length (now symbols) ≡ 252) ⌝ }
@@ -110,24 +145,7 @@ pub fn ask_page(soft: &[u8], way: Way, symbols: &mut [u8]) -> PageOutcome
         &mut changed,
         &mut erased,
     );
-    match outcome {
-        ColumnsOutcome::Answered(steps, low) => {
-            data::row_after_row(&held, symbols);
-            PageOutcome {
-                number: 0,
-                place: 0,
-                report: Report {
-                    steps: steps,
-                    changed: sets::totals(&changed),
-                    erased: sets::totals(&erased),
-                    changed_marks: changed,
-                    erased_marks: erased,
-                    low: low,
-                },
-            }
-        }
-        ColumnsOutcome::Refused(level) => refused(10, level),
-    }
+    told(outcome, &held, changed, erased, symbols)
 }
 
 // The lowest level whose row in the symbols is no word of its outer code; 4 where each is one.

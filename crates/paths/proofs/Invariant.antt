@@ -21,6 +21,14 @@ use Rattle.paths.proofs.Stack.{of-extend, in-extend, extend-keeps, exte
 abbrev pub Leads : Tree → Path → Path → Type 0
 Leads t q w = Prefix q w ⊎ ((r : Path) × Prefix r w × (t .before q r ≡ true) × (Prefix r q → ⊥))
 
+-- what holds of the paths taken and of a stack, also of one that was cut
+pub record Stacked (t : Tree) (taken stack : List Path) : Type 0 where
+  pub sorted : Sorted (t .before) stack
+  pub apart : (q : Path) → Mem q stack → Mem q taken → ⊥
+  pub there : (q : Path) → Mem q taken ⊎ Mem q stack → Exists t q
+  -- the shorter prefixes of a path taken or stacked are taken
+  pub below : (q r : Path) → Mem q taken ⊎ Mem q stack → Prefix r q → (r ≡ q) ⊎ Mem r taken
+
 pub record Invariant (t : Tree) (taken stack : List Path) : Type 0 where
   pub sorted : Sorted (t .before) stack
   pub once : NoRepeats taken
@@ -53,51 +61,90 @@ module _ (t : Tree) (sound : Sound t) where
             λ j. ⊎-elim (λ e. sound .order .irreflexive p (subst (λ (u : Path). t .before p u ≡ true) e (i .sorted .0 r m))) (i .apart r (inr m)) (i .below p r (inr (inl refl)) j),
           ))
 
+  -- p is taken, and of what was left and its existing extensions some stand on the stack, in the order
+  module _ (taken rest : List Path) (p : Path) (i : Stacked t taken (p ∷ rest)) where
+    -- no extension of p was taken or stacked before
+    new : (b : Bool) → Mem (b ∷ p) taken ⊎ Mem (b ∷ p) (p ∷ rest) → ⊥
+    new b m = ⊎-elim (longer-differs b p) (i .apart p (inl refl)) (i .below (b ∷ p) p m (inr (prefix-self p (i .there p (inr (inl refl)) .some-bit))))
+
+    pub extended-sorted : Sorted (t .before) (extend (nodes t) p rest)
+    extended-sorted = extend-sorted t (sound .order) p rest (λ b m. new b (inr (inr m))) (i .sorted .1)
+
+    pub stacked-next : (stack : List Path) → Sorted (t .before) stack → ((q : Path) → Mem q stack → Mem q (extend (nodes t) p rest)) → Stacked t (p ∷ taken) stack
+    stacked-next stack sorted some =
+        record {
+          sorted = sorted;
+          apart = λ q m. apart′ q (of-extend (nodes t) p rest q (some q m));
+          there = there′;
+          below = below′;
+        }
+      where
+        apart′ : (q : Path) → ((b : Bool) × (q ≡ b ∷ p) × (t .exists q ≡ true)) ⊎ Mem q rest → Mem q (p ∷ taken) → ⊥
+        apart′ q (inl (b, e, x)) (inl j) = longer-differs b p (sym j ∙ e)
+        apart′ q (inl (b, e, x)) (inr j) = new b (inl (subst (λ (u : Path). Mem u taken) e j))
+        apart′ q (inr k) (inl j) = sound .order .irreflexive p (subst (λ (u : Path). t .before p u ≡ true) j (i .sorted .0 q k))
+        apart′ q (inr k) (inr j) = i .apart q (inr k) j
+
+        there′ : (q : Path) → Mem q (p ∷ taken) ⊎ Mem q stack → Exists t q
+        there′ q (inl (inl k)) = i .there q (inr (inl k))
+        there′ q (inl (inr k)) = i .there q (inl k)
+        there′ q (inr m) = ⊎-elim (λ k. record { some-bit = omega (arith, ap length (k .1)); in-tree = k .2 }) (λ k. i .there q (inr (inr k))) (of-extend (nodes t) p rest q (some q m))
+
+        more : (r q : Path) → (r ≡ q) ⊎ Mem r taken → (r ≡ q) ⊎ Mem r (p ∷ taken)
+        more r q = ⊎-elim (λ k. inl k) (λ k. inr (inr k))
+
+        below-stacked : (q r : Path) → ((b : Bool) × (q ≡ b ∷ p) × (t .exists q ≡ true)) ⊎ Mem q rest → Prefix r q → (r ≡ q) ⊎ Mem r (p ∷ taken)
+        below-stacked q r (inr k) h = more r q (i .below q r (inr (inr k)) h)
+        below-stacked q r (inl (b, e, x)) h = two (subst (λ (u : Path). Prefix r u) e h)
+          where
+            two : (r ≡ b ∷ p) ⊎ Prefix r p → (r ≡ q) ⊎ Mem r (p ∷ taken)
+            two (inl j) = inl (j ∙ sym e)
+            two (inr j) = inr (i .below p r (inr (inl refl)) j)
+
+        below′ : (q r : Path) → Mem q (p ∷ taken) ⊎ Mem q stack → Prefix r q → (r ≡ q) ⊎ Mem r (p ∷ taken)
+        below′ q r (inl (inl k)) h = more r q (i .below q r (inr (inl k)) h)
+        below′ q r (inl (inr k)) h = more r q (i .below q r (inl k) h)
+        below′ q r (inr m) h = below-stacked q r (of-extend (nodes t) p rest q (some q m)) h
+
+  -- the existing paths of one bit, before a path is taken
+  pub stacked-first : (stack : List Path) → Sorted (t .before) stack → ((q : Path) → Mem q stack → Mem q (extend (nodes t) [] [])) → Stacked t [] stack
+  stacked-first stack sorted some =
+      record {
+        sorted = sorted;
+        apart = λ q m k. k;
+        there = λ q m. ⊎-elim (λ k. absurd k) (λ k. let o = one q k in record { some-bit = omega (arith, ap length (o .1)); in-tree = o .2 }) m;
+        below = λ q r m h. ⊎-elim (λ k. absurd k) (λ k. let o = one q k in inl (only q r (o .0) (o .1) h)) m;
+      }
+    where
+      one : (q : Path) → Mem q stack → (b : Bool) × (q ≡ b ∷ []) × (t .exists q ≡ true)
+      one q m = ⊎-elim (λ k. k) (λ k. absurd k) (of-extend (nodes t) [] [] q (some q m))
+
+      only : (q r : Path) (b : Bool) → q ≡ b ∷ [] → Prefix r q → r ≡ q
+      only q r b e h = ⊎-elim (λ k. k ∙ sym e) (λ k. absurd k) (subst (λ (u : Path). Prefix r u) e h)
+
+  pub first-sorted : Sorted (t .before) (extend (nodes t) [] [])
+  first-sorted = extend-sorted t (sound .order) [] [] (λ b m. m) tt
+
+  pub as-stacked : (taken stack : List Path) → Invariant t taken stack → Stacked t taken stack
+  as-stacked taken stack i = record { sorted = i .sorted; apart = i .apart; there = i .there; below = i .below }
+
   extend-invariant : (taken rest : List Path) (p : Path) → Invariant t taken (p ∷ rest) → Invariant t (p ∷ taken) (extend (nodes t) p rest)
   extend-invariant taken rest p i =
       record {
-        sorted = extend-sorted t (sound .order) p rest (λ b m. new b (inr (inr m))) (i .sorted .1);
+        sorted = next .sorted;
         once = (i .apart p (inl refl), i .once);
-        apart = λ q m. apart′ q (of-extend (nodes t) p rest q m);
-        there = there′;
-        below = below′;
+        apart = next .apart;
+        there = next .there;
+        below = next .below;
         frontier = λ w x. ⊎-elim (λ m. inl (inr m)) (λ k. frontier′ w x (k .0) (k .1) (k .2)) (i .frontier w x);
         leads = leads′;
       }
     where
-      here : Exists t p
-      here = i .there p (inr (inl refl))
+      before : Stacked t taken (p ∷ rest)
+      before = as-stacked taken (p ∷ rest) i
 
-      -- no extension of p was taken or stacked before
-      new : (b : Bool) → Mem (b ∷ p) taken ⊎ Mem (b ∷ p) (p ∷ rest) → ⊥
-      new b m = ⊎-elim (longer-differs b p) (i .apart p (inl refl)) (i .below (b ∷ p) p m (inr (prefix-self p (here .some-bit))))
-
-      apart′ : (q : Path) → ((b : Bool) × (q ≡ b ∷ p) × (t .exists q ≡ true)) ⊎ Mem q rest → Mem q (p ∷ taken) → ⊥
-      apart′ q (inl (b, e, x)) (inl j) = longer-differs b p (sym j ∙ e)
-      apart′ q (inl (b, e, x)) (inr j) = new b (inl (subst (λ (u : Path). Mem u taken) e j))
-      apart′ q (inr k) (inl j) = sound .order .irreflexive p (subst (λ (u : Path). t .before p u ≡ true) j (i .sorted .0 q k))
-      apart′ q (inr k) (inr j) = i .apart q (inr k) j
-
-      there′ : (q : Path) → Mem q (p ∷ taken) ⊎ Mem q (extend (nodes t) p rest) → Exists t q
-      there′ q (inl (inl k)) = i .there q (inr (inl k))
-      there′ q (inl (inr k)) = i .there q (inl k)
-      there′ q (inr m) = ⊎-elim (λ k. record { some-bit = omega (arith, ap length (k .1)); in-tree = k .2 }) (λ k. i .there q (inr (inr k))) (of-extend (nodes t) p rest q m)
-
-      more : (r q : Path) → (r ≡ q) ⊎ Mem r taken → (r ≡ q) ⊎ Mem r (p ∷ taken)
-      more r q = ⊎-elim (λ k. inl k) (λ k. inr (inr k))
-
-      below-stacked : (q r : Path) → ((b : Bool) × (q ≡ b ∷ p) × (t .exists q ≡ true)) ⊎ Mem q rest → Prefix r q → (r ≡ q) ⊎ Mem r (p ∷ taken)
-      below-stacked q r (inr k) h = more r q (i .below q r (inr (inr k)) h)
-      below-stacked q r (inl (b, e, x)) h = two (subst (λ (u : Path). Prefix r u) e h)
-        where
-          two : (r ≡ b ∷ p) ⊎ Prefix r p → (r ≡ q) ⊎ Mem r (p ∷ taken)
-          two (inl j) = inl (j ∙ sym e)
-          two (inr j) = inr (i .below p r (inr (inl refl)) j)
-
-      below′ : (q r : Path) → Mem q (p ∷ taken) ⊎ Mem q (extend (nodes t) p rest) → Prefix r q → (r ≡ q) ⊎ Mem r (p ∷ taken)
-      below′ q r (inl (inl k)) h = more r q (i .below q r (inr (inl k)) h)
-      below′ q r (inl (inr k)) h = more r q (i .below q r (inl k) h)
-      below′ q r (inr m) h = below-stacked q r (of-extend (nodes t) p rest q m) h
+      next : Stacked t (p ∷ taken) (extend (nodes t) p rest)
+      next = stacked-next taken rest p before (extend (nodes t) p rest) (extended-sorted taken rest p before) (λ q m. m)
 
       frontier′ : (w : Path) → Exists t w → (r : Path) → Prefix r w → (r ≡ p) ⊎ Mem r rest → Mem w (p ∷ taken) ⊎ ((r : Path) × Prefix r w × Mem r (extend (nodes t) p rest))
       frontier′ w x r h (inr k) = inr ((r, h, extend-keeps (nodes t) p rest r k))
@@ -129,20 +176,17 @@ module _ (t : Tree) (sound : Sound t) where
   unfolding start
   start-invariant =
       record {
-        sorted = extend-sorted t (sound .order) [] [] (λ b m. m) tt;
+        sorted = first .sorted;
         once = tt;
-        apart = λ q m k. k;
-        there = λ q m. ⊎-elim (λ k. absurd k) (λ k. let o = one q k in record { some-bit = omega (arith, ap length (o .1)); in-tree = o .2 }) m;
-        below = λ q r m h. ⊎-elim (λ k. absurd k) (λ k. let o = one q k in inl (only q r (o .0) (o .1) h)) m;
+        apart = first .apart;
+        there = first .there;
+        below = first .below;
         frontier = λ w x. let f = prefix-first w (x .some-bit) in inr ((f .0 ∷ [], f .1, in-extend (nodes t) (f .0) [] [] (prefix-exists (f .0 ∷ []) w (f .1) x .in-tree)));
         leads = λ q w m. absurd m;
       }
     where
-      one : (q : Path) → Mem q (extend (nodes t) [] []) → (b : Bool) × (q ≡ b ∷ []) × (t .exists q ≡ true)
-      one q m = ⊎-elim (λ k. k) (λ k. absurd k) (of-extend (nodes t) [] [] q m)
-
-      only : (q r : Path) (b : Bool) → q ≡ b ∷ [] → Prefix r q → r ≡ q
-      only q r b e h = ⊎-elim (λ k. k ∙ sym e) (λ k. absurd k) (subst (λ (u : Path). Prefix r u) e h)
+      first : Stacked t [] (extend (nodes t) [] [])
+      first = stacked-first (extend (nodes t) [] []) first-sorted (λ q m. m)
 
   take-head-invariant : (taken stack : List Path) → Invariant t taken stack → Holds (take-head t taken stack)
   unfolding take-head

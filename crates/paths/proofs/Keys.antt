@@ -21,7 +21,7 @@ use Rattle.paths.proofs.Booleans.{is-false}
 use Rattle.paths.proofs.Lists.{of-map}
 use Rattle.paths.proofs.Stack.{grow-length}
 use Rattle.paths.proofs.Invariant.{Invariant, step-invariant, start-invariant, after-invariant}
-use Rattle.paths.proofs.Low.{LowSoFar, low-at-start, low-of-one-more, lowest-so-far-is-the-low-point}
+use Rattle.paths.proofs.Low.{LowSoFar, low-at-start, low-of-one-more, led-by-the-search, lowest-so-far-is-the-low-point}
 use Rattle.paths.proofs.Run.{answer-is-not-spent}
 
 -- ---- on keys alone
@@ -85,6 +85,23 @@ module _ {A : Type 0} (N : Nodes A) where
       go true k ih = answer-is-not-spent taken (suc c) d k
       go false k ih = ih k
 
+-- ---- the search on paths
+
+module _ (t : Tree) (sound : Sound t) where
+  pub some-size : 0 < t .size
+  some-size = omega (arith, sound .some-full .1 .long, sound .some-full .1 .there .some-bit)
+
+  -- an empty stack spends the fuel
+  pub run-on-empty : (accept : Path → Bool) (fuel : ℕ) (taken : List Path) → run t accept fuel (record { taken = taken; stack = [] }) ≡ spent (length taken)
+  unfolding run step take-head is-full
+  run-on-empty accept zero taken = refl
+  run-on-empty accept (suc fuel) taken =
+      ap (λ (b : Bool). cond (b && accept []) (answer [] (length taken)) (run t accept fuel (record { taken = taken; stack = [] }))) (is-false (eqb 0 (t .size)) not-full)
+      ∙ run-on-empty accept fuel taken
+    where
+      not-full : eqb 0 (t .size) ≡ true → ⊥
+      not-full e = omega (arith, eqb-true 0 (t .size) e, some-size)
+
 -- ---- keys and paths
 
 cond-map : {A B : Type 0} (f : A → B) (b : Bool) (x y : List A) → map f (cond b x y) ≡ cond b (map f x) (map f y)
@@ -123,7 +140,7 @@ module _ (t : Tree) {A : Type 0} (N : Nodes A) (key : Path → A) (keys : KeysOf
   )
 
   module _ (sound : Sound t) where
-    grow-keys : (p : Path) (rest : List Path) → Exists t p → map key (grow (nodes t) p rest) ≡ grow N (key p) (map key rest)
+    pub grow-keys : (p : Path) (rest : List Path) → Exists t p → map key (grow (nodes t) p rest) ≡ grow N (key p) (map key rest)
     unfolding grow is-full
     grow-keys p rest x = go (eqb (length p) (t .size)) refl ∙ ap (λ (b : Bool). cond b (map key rest) (extend N (key p) (map key rest))) (sym (keys .same-full p))
       where
@@ -131,27 +148,13 @@ module _ (t : Tree) {A : Type 0} (N : Nodes A) (key : Path → A) (keys : KeysOf
         go true e = refl
         go false e = extend-keys p rest (inr x) (omega (arith, eqb-false (length p) (t .size) e, sound .short p (x .in-tree)))
 
-    some-size : 0 < t .size
-    some-size = omega (arith, sound .some-full .1 .long, sound .some-full .1 .there .some-bit)
-
-    -- an empty stack spends the fuel
-    run-on-empty : (accept : Path → Bool) (fuel : ℕ) (taken : List Path) → run t accept fuel (record { taken = taken; stack = [] }) ≡ spent (length taken)
-    unfolding run step take-head is-full
-    run-on-empty accept zero taken = refl
-    run-on-empty accept (suc fuel) taken =
-        ap (λ (b : Bool). cond (b && accept []) (answer [] (length taken)) (run t accept fuel (record { taken = taken; stack = [] }))) (is-false (eqb 0 (t .size)) not-full)
-        ∙ run-on-empty accept fuel taken
-      where
-        not-full : eqb 0 (t .size) ≡ true → ⊥
-        not-full e = omega (arith, eqb-true 0 (t .size) e, some-size)
-
     module _ (z₀ : ℤ) (high : (w : Path) → Exists t w → t .sum w ≤ℤ z₀) where
       -- a run on keys has the outcome of the run on paths, the word with its low point
       run-keys-from : (accept : A → Bool) (fuel : ℕ) (taken stack : List Path) (z : ℤ) → Invariant t taken stack → LowSoFar t z₀ taken z
           → run-keys N accept fuel (length taken) z (map key stack) ≡ with-key (key-with-low t key) (run t (λ p. accept (key p)) fuel (record { taken = taken; stack = stack }))
       unfolding run-keys run step take-head with-key
       run-keys-from accept zero taken stack z i so = refl
-      run-keys-from accept (suc fuel) taken [] z i so = sym (ap (with-key (key-with-low t key)) (run-on-empty (λ p. accept (key p)) (suc fuel) taken))
+      run-keys-from accept (suc fuel) taken [] z i so = sym (ap (with-key (key-with-low t key)) (run-on-empty t sound (λ p. accept (key p)) (suc fuel) taken))
       run-keys-from accept (suc fuel) taken (p ∷ rest) z i so =
           ap (λ (b : Bool). cond (b && accept (key p)) (answer (told (lower z (N .sum (key p)))) (suc (length taken))) (run-keys N accept fuel (suc (length taken)) (lower z (N .sum (key p))) (grow N (key p) (map key rest)))) (keys .same-full p)
           ∙ ap (λ (s : ℤ). cond (is-full t p && accept (key p)) (answer (told (lower z s)) (suc (length taken))) (run-keys N accept fuel (suc (length taken)) (lower z s) (grow N (key p) (map key rest)))) (keys .same-sum p)
@@ -173,7 +176,7 @@ module _ (t : Tree) {A : Type 0} (N : Nodes A) (key : Path → A) (keys : KeysOf
               ≡ with-key (key-with-low t key) (run t (λ p. accept (key p)) fuel (record { taken = p ∷ taken; stack = grow (nodes t) p rest }))
               → cond b (answer (told (lower z (t .sum p))) (suc (length taken))) (run-keys N accept fuel (suc (length taken)) (lower z (t .sum p)) (map key (grow (nodes t) p rest)))
               ≡ with-key (key-with-low t key) (cond b (answer p (suc (length taken))) (run t (λ p. accept (key p)) fuel (record { taken = p ∷ taken; stack = grow (nodes t) p rest })))
-          go true ih = ap (λ (y : ℤ). answer (told y) (suc (length taken))) (lowest-so-far-is-the-low-point t sound taken rest p i z₀ (lower z (t .sum p)) (high p here) one-more)
+          go true ih = ap (λ (y : ℤ). answer (told y) (suc (length taken))) (lowest-so-far-is-the-low-point t taken p (led-by-the-search t sound taken rest p i) z₀ (lower z (t .sum p)) (high p here) one-more)
           go false ih = ih
 
     stack-after-from : (k : ℕ) (taken stack : List Path) → Invariant t taken stack → map key (steps t k (record { taken = taken; stack = stack }) .stack) ≡ stack-after N k (map key stack)
@@ -199,9 +202,9 @@ module _ (t : Tree) {A : Type 0} (N : Nodes A) (key : Path → A) (keys : KeysOf
         next : State
         next = record { taken = p ∷ taken; stack = grow (nodes t) p rest }
 
-    start-keys : map key (start t .stack) ≡ extend N (key []) []
+    pub start-keys : map key (start t .stack) ≡ extend N (key []) []
     unfolding start
-    start-keys = extend-keys [] [] (inl refl) some-size
+    start-keys = extend-keys [] [] (inl refl) (some-size t sound)
 
     -- from the start, with a number that is below no path's sum: the outcome of the search on paths, the word with its low point
     pub search-on-keys-is-search-on-paths : (z₀ : ℤ) → ((w : Path) → Exists t w → t .sum w ≤ℤ z₀) → (accept : A → Bool) (limit : ℕ)

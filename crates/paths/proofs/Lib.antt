@@ -19,3 +19,4 @@ pub mod Limit
 pub mod Dead
 pub mod Keys
 pub mod TwoWords
+pub mod Bounded

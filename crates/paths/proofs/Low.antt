@@ -149,36 +149,48 @@ low-at-start t z₀ = lowest-from-is z₀ []
 pub low-of-one-more : (t : Tree) (z₀ : ℤ) (taken : List Path) (p : Path) (z : ℤ) → LowSoFar t z₀ taken z → LowSoFar t z₀ (p ∷ taken) (lower z (t .sum p))
 low-of-one-more t z₀ taken p z so = lower-is-lowest (map (t .sum) taken ++ (z₀ ∷ [])) z (t .sum p) so
 
+-- w comes next: its prefixes are taken, and each path taken has a sum not below that of some prefix of w
+pub record Led (t : Tree) (taken : List Path) (w : Path) : Type 0 where
+  pub there : Exists t w
+  pub below : (r : Path) → Prefix r w → Mem r (w ∷ taken)
+  pub above : (p : Path) → Mem p taken → (r : Path) × Prefix r w × (t .sum r ≤ℤ t .sum p)
+
+module _ (t : Tree) (taken : List Path) (w : Path) (led : Led t taken w) where
+  above-some-prefix : (p : Path) → Mem p (w ∷ taken) → (r : Path) × Prefix r w × (t .sum r ≤ℤ t .sum p)
+  above-some-prefix p (inl e) = (w, prefix-self w (led .there .some-bit), subst⁻¹ (λ (x : Path). t .sum w ≤ℤ t .sum x) e (≤ℤ-refl (t .sum w)))
+  above-some-prefix p (inr m) = led .above p m
+
+  lowest-of-taken : Lowest (map (t .sum) (w ∷ taken)) (low-point (t .sum) w)
+  lowest-of-taken =
+      let r = some-prefix-has-the-low-point (t .sum) w (led .there .some-bit) in
+      record {
+        is-one = subst⁻¹ (λ (z : ℤ). Mem z (map (t .sum) (w ∷ taken))) (r .2) (in-map (t .sum) (r .0) (w ∷ taken) (led .below (r .0) (r .1)));
+        none-below = λ z m.
+            let p = of-map (t .sum) z (w ∷ taken) m in
+            let q = above-some-prefix (p .0) (p .2) in
+            subst⁻¹ (λ (x : ℤ). low-point (t .sum) w ≤ℤ x) (p .1) (≤ℤ-trans _ (t .sum (q .0)) (t .sum (p .0)) (no-prefix-is-below-the-low-point (t .sum) w (led .there .some-bit) (q .0) (q .1)) (q .2));
+      }
+
+  -- a number that is not below w's sum counts for nothing
+  pub lowest-so-far-is-the-low-point : (z₀ z : ℤ) → t .sum w ≤ℤ z₀ → LowSoFar t z₀ (w ∷ taken) z → z ≡ low-point (t .sum) w
+  lowest-so-far-is-the-low-point z₀ z high so =
+      let sums = map (t .sum) (w ∷ taken) in
+      ≤ℤ-antisym z (low-point (t .sum) w) (so .none-below (low-point (t .sum) w) (in-append (low-point (t .sum) w) sums (z₀ ∷ []) (inl (lowest-of-taken .is-one)))) (above (of-append z sums (z₀ ∷ []) (so .is-one)))
+    where
+      above : Mem z (map (t .sum) (w ∷ taken)) ⊎ Mem z (z₀ ∷ []) → low-point (t .sum) w ≤ℤ z
+      above (inl m) = lowest-of-taken .none-below z m
+      above (inr (inl e)) = subst⁻¹ (λ (x : ℤ). low-point (t .sum) w ≤ℤ x) e (≤ℤ-trans _ (t .sum w) z₀ (lowest-of-taken .none-below (t .sum w) (inl refl)) high)
+
 module _ (t : Tree) (sound : Sound t) where
   -- Until w is taken one of its prefixes is on the stack, so each path taken has a sum not below that of some prefix of w; and all prefixes of w are taken.
-  module _ (taken rest : List Path) (w : Path) (i : Invariant t taken (w ∷ rest)) where
-    there : Exists t w
-    there = i .there w (inr (inl refl))
-
-    above-some-prefix : (p : Path) → Mem p (w ∷ taken) → (r : Path) × Prefix r w × (t .sum r ≤ℤ t .sum p)
-    above-some-prefix p (inl e) = (w, prefix-self w (there .some-bit), subst⁻¹ (λ (x : Path). t .sum w ≤ℤ t .sum x) e (≤ℤ-refl (t .sum w)))
-    above-some-prefix p (inr m) = ⊎-elim (λ k. (p, k, ≤ℤ-refl (t .sum p))) (λ k. (k .0, k .1, sound .sums-fall p (k .0) (k .2))) (i .leads p w m there (i .apart w (inl refl)))
-
-    lowest-of-taken : Lowest (map (t .sum) (w ∷ taken)) (low-point (t .sum) w)
-    lowest-of-taken =
-        let r = some-prefix-has-the-low-point (t .sum) w (there .some-bit) in
-        record {
-          is-one = subst⁻¹ (λ (z : ℤ). Mem z (map (t .sum) (w ∷ taken))) (r .2) (in-map (t .sum) (r .0) (w ∷ taken) (i .below w (r .0) (inr (inl refl)) (r .1)));
-          none-below = λ z m.
-              let p = of-map (t .sum) z (w ∷ taken) m in
-              let q = above-some-prefix (p .0) (p .2) in
-              subst⁻¹ (λ (x : ℤ). low-point (t .sum) w ≤ℤ x) (p .1) (≤ℤ-trans _ (t .sum (q .0)) (t .sum (p .0)) (no-prefix-is-below-the-low-point (t .sum) w (there .some-bit) (q .0) (q .1)) (q .2));
-        }
-
-    -- a number that is not below w's sum counts for nothing
-    pub lowest-so-far-is-the-low-point : (z₀ z : ℤ) → t .sum w ≤ℤ z₀ → LowSoFar t z₀ (w ∷ taken) z → z ≡ low-point (t .sum) w
-    lowest-so-far-is-the-low-point z₀ z high so =
-        let sums = map (t .sum) (w ∷ taken) in
-        ≤ℤ-antisym z (low-point (t .sum) w) (so .none-below (low-point (t .sum) w) (in-append (low-point (t .sum) w) sums (z₀ ∷ []) (inl (lowest-of-taken .is-one)))) (above (of-append z sums (z₀ ∷ []) (so .is-one)))
-      where
-        above : Mem z (map (t .sum) (w ∷ taken)) ⊎ Mem z (z₀ ∷ []) → low-point (t .sum) w ≤ℤ z
-        above (inl m) = lowest-of-taken .none-below z m
-        above (inr (inl e)) = subst⁻¹ (λ (x : ℤ). low-point (t .sum) w ≤ℤ x) e (≤ℤ-trans _ (t .sum w) z₀ (lowest-of-taken .none-below (t .sum w) (inl refl)) high)
+  pub led-by-the-search : (taken rest : List Path) (w : Path) → Invariant t taken (w ∷ rest) → Led t taken w
+  led-by-the-search taken rest w i =
+      let there = i .there w (inr (inl refl)) in
+      record {
+        there = there;
+        below = λ r h. i .below w r (inr (inl refl)) h;
+        above = λ p m. ⊎-elim (λ k. (p, k, ≤ℤ-refl (t .sum p))) (λ k. (k .0, k .1, sound .sums-fall p (k .0) (k .2))) (i .leads p w m there (i .apart w (inl refl)));
+      }
 
   -- the law of the search: with any accepted set and limit, the low point of the word that it answers is the lowest sum of all paths that it took
   pub low-point-is-the-lowest-taken : (accept : Path → Bool) (limit : ℕ) (w : Path) (c : ℕ) → run t accept limit (start t) ≡ answer w c
@@ -187,4 +199,4 @@ module _ (t : Tree) (sound : Sound t) where
       let next = answer-is-the-next t sound accept limit 0 w c (ap (run t accept limit) (after-zero t) ∙ e) in
       let full = next .0 .full in
       subst⁻¹ (λ (l : List Path). Lowest (map (t .sum) l) (low-point (t .sum) w)) (ap (λ (k : ℕ). after t k .taken) (next .1) ∙ taken-at-number t sound w full)
-      (lowest-of-taken _ _ w (invariant-then t sound w full))
+      (lowest-of-taken t _ w (led-by-the-search _ _ w (invariant-then t sound w full)))

@@ -70,6 +70,14 @@ module _ {A : Type 0} (N : Nodes A) where
       go true = omega (arith, insert-length x stack)
       go false = omega arith
 
+  pub push-keeps-length : (x : A) (stack : List A) → length stack ≤ length (push N x stack)
+  unfolding push
+  push-keeps-length x stack = go (N .exists x)
+    where
+      go : (b : Bool) → length stack ≤ length (cond b (insert N x stack) stack)
+      go true = omega (arith, insert-length x stack)
+      go false = omega arith
+
   push-none : (x : A) (stack : List A) → N .exists x ≡ false → push N x stack ≡ stack
   unfolding push
   push-none x stack e = rw e

@@ -8,3 +8,4 @@ pub mod Search
 pub mod Dead
 pub mod Keys
 pub mod TwoWords
+pub mod Bounded

@@ -21,7 +21,7 @@ use Rattle.search.specs.declared.SearchOutcome.the-variants.{Found, Spent}
 use Rattle.trellis.proofs.Short.{searchable}
 use Rattle.concatenated.specs.Lists.{sum}
 use Rattle.concatenated.specs.SoftPage.{Soft}
-use Rattle.concatenated.specs.Decode.{Reading, spent, symbol, symbols, mark, marks, lows, count, steps}
+use Rattle.concatenated.specs.Decode.{Reading, Reader, spent, symbol, symbols, mark, marks, lows, count, steps}
 use Rattle.concatenated.specs.Readers.{readingOf, readerOf, shortReader}
 use Rattle.concatenated.specs.Flags.{flag}
 use Rattle.readings.specs.Steps.{asReading, WordInRange, RowRead}
@@ -38,6 +38,11 @@ unfolding codeOutcome readingOf
 by-code limit (answer w n) = refl
 by-code limit (Search.spent n) = refl
 
+-- the word that a search gives is in range, by whatever reader it is a reading
+pub word-is-in-range : (limit i : ℕ) → i < 4 → (read : Reader) → ReadsWords short levelValues limit read i → (c : List ℕ) (n : ℕ) (r : SearchOutcome) → asReading n r ≡ read i c → WordInRange r
+word-is-in-range limit i h read reads c n (Found w m z) e = found-is-a-word short i (searchable i h) levelValues limit read reads c (record { column = w; low = z }) m (sym e) .0
+word-is-in-range limit i h read reads c n Spent e = tt
+
 module _ (choice : Choice) (kind : Kind) (limit i : ℕ) (h : i < 4) (c : List ℕ) where
   reads : ReadsWords short levelValues limit (shortReader choice kind limit) i
   reads = readers-read-words short i (searchable i h) levelValues limit choice kind
@@ -48,8 +53,7 @@ module _ (choice : Choice) (kind : Kind) (limit i : ℕ) (h : i < 4) (c : List �
   reads-it r e = ap (asReading limit) e ∙ by-code limit (searchedBy choice kind short (levelValues i) limit c i)
 
   pub word-in-range : (r : SearchOutcome) → r ≡ codeOutcome (searchedBy choice kind short (levelValues i) limit c i) → WordInRange r
-  word-in-range (Found w n z) e = found-is-a-word short i (searchable i h) levelValues limit (shortReader choice kind limit) reads c (record { column = w; low = z }) n (sym (reads-it (Found w n z) e)) .0
-  word-in-range Spent e = tt
+  word-in-range r e = word-is-in-range limit i h (shortReader choice kind limit) reads c limit r (reads-it r e)
 
   pub count-within-the-limit : count (shortReader choice kind limit i c) ≤ limit
   count-within-the-limit = Readings.count-within-the-limit short i (searchable i h) levelValues limit (shortReader choice kind limit) reads c

@@ -14,10 +14,10 @@ use list_of_two::Way;
 use search::SearchOutcome;
 
 pub struct Entry {
-    symbol: u8,
-    mark: u8,
-    count: u64,
-    low: i16,
+    pub symbol: u8,
+    pub mark: u8,
+    pub count: u64,
+    pub low: i16,
 }
 
 // What is read of a level beside its symbols and marks: the steps, and the lowest low point so far.
@@ -26,8 +26,8 @@ pub struct RowTotals {
     pub low: i16,
 }
 
-// What a column enters the row with: the symbol that its word re-images to, or 0 and a mark; and the lowest low point with its own, if it has one.
-fn enter(level: usize, limit: u64, lowest: i16, found: SearchOutcome) -> Entry
+// What a column enters the row with: the symbol that its word re-images to, or 0 and a mark; and the lowest low point with its own, if it has one. A spent column counts the limit.
+pub fn enter(level: usize, limit: u64, lowest: i16, found: SearchOutcome) -> Entry
     requires { ⌜ (level < 4) × WordInRange found ⌝ }
     ensures { λ r. ⌜ (r .symbol ≡ symbol short level (asReading limit found)) × (r .mark ≡ flag (mark (asReading limit found))) × (r .count ≡ count (asReading limit found))
         × (r .low ≡ lowest-from lowest (lows (asReading limit found ∷ []))) ⌝ }

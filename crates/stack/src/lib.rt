@@ -17,7 +17,7 @@ ghost use Rattle.trellis.specs.Keys.{Key, key, keyBefore};
 ghost use Rattle.stack.specs.Places.{at, Room, Upto, lifted, rankOf, Small, Span, Lead, Out};
 
 // Whether the first path stands before the second: larger sum, then longer, then the smaller bits.
-fn stands_before(s: i16, l: u8, b: u64, s2: i16, l2: u8, b2: u64) -> bool
+pub fn stands_before(s: i16, l: u8, b: u64, s2: i16, l2: u8, b2: u64) -> bool
     ensures { λ r. ⌜ r ≡ keyBefore (key s l b) (key s2 l2 b2) ⌝ }
 {
     if s2 < s {

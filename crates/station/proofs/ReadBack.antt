@@ -19,6 +19,8 @@ use Rattle.page.specs.declared.PageOutcome.{PageOutcome}
 use Rattle.page.specs.declared.Report.{Report}
 use Rattle.store_pages.specs.Pages.{decodedPage}
 use Rattle.store_pages.specs.Reports.{Marked}
+use Rattle.concatenated.specs.Readers.{shortReader}
+use Rattle.concatenated.proofs.Readings.{short-readers-read-words}
 use Rattle.store_pages.proofs.Reports.{refusals-are-marked, answers-are-marked, answers-are-near}
 use Rattle.trellis.proofs.Sums.{mag-le}
 use Rattle.station.specs.Report.{totalBytes, stepsAndTotals, stepsToMarks, lowBytes, reportBytes, changedTotalIn, erasedTotalIn, Holds}
@@ -34,13 +36,13 @@ ReportMarked o = Marked (o .report)
 answer-is-marked : (B : Buffer) (choice : Choice) (soft : List ℕ) (limit : ℕ) (buffer report : List ℕ) → ReportMarked (pageAnswer B choice soft limit buffer report)
 answer-is-marked B choice soft limit buffer report =
     every-way choice soft limit (haveRoom B buffer report) ReportMarked refusedPage (outcomeOf (decodedPage choice supercode soft limit)) (λ n p some few near. refusals-are-marked)
-    (λ most. answers-are-marked choice supercode soft limit (decodedPage choice supercode soft limit) refl)
+    (λ most. answers-are-marked limit (shortReader choice supercode limit) (short-readers-read-words choice supercode limit) soft (decodedPage choice supercode soft limit) refl)
 
 -- the low point has 16 bits
 answer-is-near : (B : Buffer) (choice : Choice) (soft : List ℕ) (limit : ℕ) (buffer report : List ℕ) → mag (pageAnswer B choice soft limit buffer report .report .low) < 32768
 answer-is-near B choice soft limit buffer report =
     every-way choice soft limit (haveRoom B buffer report) (λ (o : PageOutcome). mag (o .report .low) < 32768) refusedPage (outcomeOf (decodedPage choice supercode soft limit)) (λ n p some few near. omega arith)
-    (λ most. omega (arith, mag-le (outcomeOf (decodedPage choice supercode soft limit) .report .low), answers-are-near choice supercode soft limit (decodedPage choice supercode soft limit) refl))
+    (λ most. omega (arith, mag-le (outcomeOf (decodedPage choice supercode soft limit) .report .low), answers-are-near limit (shortReader choice supercode limit) (short-readers-read-words choice supercode limit) soft (decodedPage choice supercode soft limit) refl))
 
 totals-in : (r : Report) (level : ℕ) → level < 4 → (changedTotalIn (reportBytes r) level ≡ getD (r .changed) level 0) × (erasedTotalIn (reportBytes r) level ≡ getD (r .erased) level 0)
 unfolding digits

@@ -21,7 +21,7 @@ use Rattle.list_of_two.proofs.Thresholds.{handed-on}
 use Rattle.readings.specs.Steps.{wayReader}
 use Rattle.concatenated.specs.Format.{shortPage}
 use Rattle.concatenated.specs.SoftPage.{Soft, softColumns}
-use Rattle.concatenated.specs.Decode.{decoded}
+use Rattle.concatenated.specs.Decode.{PageAnswer, decoded}
 use Rattle.concatenated.specs.OuterCode.{shortOuter}
 use Rattle.page.specs.Outcomes.{refusedPage, outcomeOf, Buffer, filled}
 use Rattle.page.specs.declared.PageOutcome.{PageOutcome}
@@ -29,7 +29,7 @@ use Rattle.questions.specs.Questions.{firstAbove}
 use Rattle.questions.specs.declared.Outcome.{Outcome}
 use Rattle.questions.specs.declared.Outcome.the-variants.{Done, Refused}
 use Rattle.questions.proofs.EitherWay.{by-answer, either, first-bad, led, led-on, asked-done}
-use Rattle.store_pages.specs.Pages.{askPage, decodedPage, PageFilled}
+use Rattle.store_pages.specs.Pages.{askPage, decodedPage, FilledBy, PageFilled}
 use Rattle.store_pages.proofs.SoftValues.{values-are-soft, none-above-7}
 
 -- a refusal of a number 1..11 and a place up to 1890
@@ -90,23 +90,21 @@ module _ (choice : Choice) (soft : List ℕ) (limit : ℕ) (room : Bool) where
   refusals-are-numbered = every-way Numbered Refused Done (λ n p some few near. some) (λ most. tt)
 
 -- a call with right values, limit and threshold, whose buffer has its places, gives what the page's answer makes
-module _ (B : Buffer) (choice : Choice) (s : Search) (soft : List ℕ) (limit : ℕ) (old : List ℕ) where
-  pub accepted-call : Values 1890 7 soft → 1 ≤ limit → limit ≤ 2000 → thresholdAllowed choice ≡ true → length old ≡ B .places → (r : PageOutcome) (new : List ℕ) → PageFilled B choice s soft limit old r new
-      → (r ≡ outcomeOf (decodedPage choice s soft limit)) × (new ≡ filled B old (decodedPage choice s soft limit))
+module _ (page : PageAnswer) (B : Buffer) (choice : Choice) (soft : List ℕ) (limit : ℕ) (old : List ℕ) where
+  pub accepted-call : Values 1890 7 soft → 1 ≤ limit → limit ≤ 2000 → thresholdAllowed choice ≡ true → length old ≡ B .places → (r : PageOutcome) (new : List ℕ) → FilledBy page B choice soft limit old r new
+      → (r ≡ outcomeOf page) × (new ≡ filled B old page)
   accepted-call values-soft some at-most in-range room r new call =
-      let D = decodedPage choice s soft limit in
       let asked = all-yes choice soft limit (eqb (length old) (B .places)) (values-soft .size) (eq-eqb _ _ room) some at-most in-range (none-above-7 soft values-soft) in
-      (call .answer ∙ sym (asked PageOutcome refusedPage (outcomeOf D)), call .bytes ∙ sym (asked (List ℕ) (λ n p. old) (filled B old D)))
+      (call .answer ∙ sym (asked PageOutcome refusedPage (outcomeOf page)), call .bytes ∙ sym (asked (List ℕ) (λ n p. old) (filled B old page)))
 
--- so a call that gives the refusal and keeps the buffer, or what the page's answer gives, gives what is due
-module _ (B : Buffer) (choice : Choice) (s : Search) (soft : List ℕ) (limit : ℕ) (old : List ℕ) where
-  pub refused-as : (n p : ℕ) → Refused n p ≡ askPage choice soft limit (eqb (length old) (B .places)) Refused Done → (r : PageOutcome) → r ≡ refusedPage n p → PageFilled B choice s soft limit old r old
+  -- a call that gives the refusal and keeps the buffer, or what the page's answer gives, gives what is due
+  pub refused-as : (n p : ℕ) → Refused n p ≡ askPage choice soft limit (eqb (length old) (B .places)) Refused Done → (r : PageOutcome) → r ≡ refusedPage n p → FilledBy page B choice soft limit old r old
   refused-as n p asked r e =
       let room = eqb (length old) (B .places) in
       record { answer = e ∙ sym (settled choice soft limit room refusedPage _ (Refused n p) asked); bytes = sym (settled choice soft limit room (λ n p. old) _ (Refused n p) asked) }
 
-  pub filled-as : Done ≡ askPage choice soft limit (eqb (length old) (B .places)) Refused Done → (r : PageOutcome) (new : List ℕ) → r ≡ outcomeOf (decodedPage choice s soft limit)
-      → new ≡ filled B old (decodedPage choice s soft limit) → PageFilled B choice s soft limit old r new
+  pub filled-as : Done ≡ askPage choice soft limit (eqb (length old) (B .places)) Refused Done → (r : PageOutcome) (new : List ℕ) → r ≡ outcomeOf page
+      → new ≡ filled B old page → FilledBy page B choice soft limit old r new
   filled-as asked r new e b =
       let room = eqb (length old) (B .places) in
       record { answer = e ∙ sym (settled choice soft limit room refusedPage _ Done asked); bytes = b ∙ sym (settled choice soft limit room (λ n p. old) _ Done asked) }
@@ -120,9 +118,9 @@ page-in-its-way way choice in-supercodes limit is soft =
     ap₂ (λ (c : Choice) (l : ℕ). decodedPage c (searchOf (way .«in_supercodes»)) soft l) (is .2) (is .0) ∙ ap (λ (b : Bool). decodedPage choice (searchOf b) soft limit) (is .1)
 
 -- a call that hands its threshold on
-pub as-handed-on : (second : Bool) (t : ℤ) → SFits w64 t → {B : Buffer} {s : Search} {soft : List ℕ} {limit : ℕ} {old : List ℕ} {r : PageOutcome} {new : List ℕ}
+pub as-handed-on : (second : Bool) (t : ℤ) → SFits w64 t → (s : Search) {B : Buffer} {soft : List ℕ} {limit : ℕ} {old : List ℕ} {r : PageOutcome} {new : List ℕ}
     → PageFilled B (chosen second (toZ w64 (ofZ w64 t))) s soft limit old r new → PageFilled B (chosen second t) s soft limit old r new
-as-handed-on second t fits {B} {s} {soft} {limit} {old} {r} {new} filled = subst (λ (c : Choice). PageFilled B c s soft limit old r new) (handed-on second t fits) filled
+as-handed-on second t fits s {B} {soft} {limit} {old} {r} {new} filled = subst (λ (c : Choice). PageFilled B c s soft limit old r new) (handed-on second t fits) filled
 
 -- a call that hands its threshold on, and gives what the page in its way gives
 pub filled-in-its-way : (B : Buffer) (way : Way) (second : Bool) (t : ℤ) → SFits w64 t → (in-supercodes : Bool) (soft : List ℕ) (limit : ℕ) (old : List ℕ)
@@ -132,4 +130,4 @@ pub filled-in-its-way : (B : Buffer) (way : Way) (second : Bool) (t : ℤ) → S
     → PageFilled B (chosen second t) (searchOf in-supercodes) soft limit old r new
 filled-in-its-way B way second t fits in-supercodes soft limit old is asked r new e b =
     let page = page-in-its-way way (chosen second _) in-supercodes limit is soft in
-    as-handed-on second t fits (filled-as B (chosen second _) (searchOf in-supercodes) soft limit old asked r new (e ∙ ap outcomeOf page) (b ∙ ap (filled B old) page))
+    as-handed-on second t fits (searchOf in-supercodes) (filled-as (decodedPage (chosen second _) (searchOf in-supercodes) soft limit) B (chosen second _) soft limit old asked r new (e ∙ ap outcomeOf page) (b ∙ ap (filled B old) page))

@@ -102,7 +102,7 @@ module _ (bytes soft : List ℕ) (right : RightReadings bytes soft) (limit : ℕ
     page = decodedPage choice s soft limit
 
     made : (r ≡ outcomeOf page) × (new ≡ filled B old page)
-    made = accepted-call B choice s soft limit old (right .are-values) some at-most in-range room r new call
+    made = accepted-call (decodedPage choice s soft limit) B choice soft limit old (right .are-values) some at-most in-range room r new call
 
     reports : (back : BackUnchanged shortPage shortEncoder bytes page) → r ≡ record { number = 0; place = 0; report = reportOf (back .levels) (back .steps) }
     unfolding outcomeOf

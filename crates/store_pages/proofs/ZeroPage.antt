@@ -17,7 +17,7 @@ use Rattle.concatenated.specs.ZeroPage.{zeroPage}
 use Rattle.page.specs.Outcomes.{noColumns, outcomeOf, dataBuffer, filled}
 use Rattle.page.specs.declared.PageOutcome.{PageOutcome}
 use Rattle.concatenated.proofs.ZeroPage.{zero-page-comes-back, zero-levels-hold-zeros}
-use Rattle.store_pages.specs.Pages.{PageDecoded}
+use Rattle.store_pages.specs.Pages.{decodedPage, PageDecoded}
 use Rattle.store_pages.proofs.Asked.{accepted-call}
 
 zeros-are-soft : Values 1890 7 (zeroPage shortPage)
@@ -29,6 +29,6 @@ pub zero-page-comes-back-from-the-calls : (s : Search) (limit : ℕ) → 30 ≤ 
     → (r ≡ record { number = 0; place = 0; report = noColumns 7560 (pos 2) }) × (new ≡ replicate 150 0)
 unfolding outcomeOf filled total markOf listed pageLow allLows flatMap lowest lowest-from lower
 zero-page-comes-back-from-the-calls s limit enough most old room r new call =
-    let made = accepted-call dataBuffer off s (zeroPage shortPage) limit old zeros-are-soft (omega arith) most refl room r new call in
+    let made = accepted-call (decodedPage off s (zeroPage shortPage) limit) dataBuffer off (zeroPage shortPage) limit old zeros-are-soft (omega arith) most refl room r new call in
     let back = zero-page-comes-back s limit enough in
     (made .0 ∙ ap outcomeOf back, made .1 ∙ ap (filled dataBuffer old) back ∙ zero-levels-hold-zeros)

@@ -46,10 +46,14 @@ askPage choice soft limit room refusal next =
     (ask (leb 1890 (firstAbove soft 7)) (refusal 5 (firstAbove soft 7))
     next)))))
 
--- the answer, 10 with its level included, and the bytes after it: what the answer fills the buffer with, or the old ones
-pub record PageFilled (B : Buffer) (choice : Choice) (s : Search) (soft : List ℕ) (limit : ℕ) (old : List ℕ) (r : PageOutcome) (new : List ℕ) : Type 0 where
-  pub answer : r ≡ askPage choice soft limit (eqb (length old) (B .places)) refusedPage (outcomeOf (decodedPage choice s soft limit))
-  pub bytes : new ≡ askPage choice soft limit (eqb (length old) (B .places)) (λ n p. old) (filled B old (decodedPage choice s soft limit))
+-- a call that decodes to `page`: the answer, 10 with its level included, and the bytes after it: what the answer fills the buffer with, or the old ones
+pub record FilledBy (page : PageAnswer) (B : Buffer) (choice : Choice) (soft : List ℕ) (limit : ℕ) (old : List ℕ) (r : PageOutcome) (new : List ℕ) : Type 0 where
+  pub answer : r ≡ askPage choice soft limit (eqb (length old) (B .places)) refusedPage (outcomeOf page)
+  pub bytes : new ≡ askPage choice soft limit (eqb (length old) (B .places)) (λ n p. old) (filled B old page)
+
+-- with one of the two searches
+abbrev pub PageFilled : Buffer → Choice → Search → List ℕ → ℕ → List ℕ → PageOutcome → List ℕ → Type 0
+PageFilled B choice s soft limit = FilledBy (decodedPage choice s soft limit) B choice soft limit
 
 -- page decoding: 150 bytes
 abbrev pub PageDecoded : Search → List ℕ → ℕ → List ℕ → PageOutcome → List ℕ → Type 0

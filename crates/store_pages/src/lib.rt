@@ -36,7 +36,7 @@ pub fn encode_page(data: &[u8], out: &mut [u8]) -> Outcome
 }
 
 // The questions of page decoding and of asking, in their order; `room` tells whether the output has its places.
-fn page_questions(soft: &[u8], limit: u64, second: bool, threshold: i64, room: bool) -> Outcome
+pub fn page_questions(soft: &[u8], limit: u64, second: bool, threshold: i64, room: bool) -> Outcome
     ensures { λ r. ⌜ r ≡ askPage (chosen second threshold) (now (soft .entry)) limit room Refused Done ⌝ }
 {
     if soft.len() != 1890 {

@@ -10,6 +10,7 @@ pub mod Counts
 pub mod HardPath
 pub mod TwoWords
 pub mod TwoKeys
+pub mod Bounded
 pub mod Short
 pub mod ZeroColumn
 pub mod Thresholds

@@ -13,7 +13,9 @@ use Rattle.paths.specs.Dead.{dead-ahead}
 use Rattle.trellis.specs.Values.{levelValues}
 use Rattle.trellis.specs.Order.{sum}
 use Rattle.trellis.specs.Trellis.{WordFound, foundWord, searched}
+use Rattle.trellis.specs.Bounded.{searchedWithin}
 use Rattle.trellis.proofs.Demand as Demand
+use Rattle.trellis.proofs.Bounded as Bounded
 use Rattle.trellis.specs.Demand.{Search, trellis, wholeTrellis, supercodeTrellis, AheadOfAll}
 use Rattle.trellis.proofs.Demand.{Searchable}
 
@@ -51,3 +53,8 @@ module _ (soft : List ℕ) where
   pub level-0-searches-are-one : (limit : ℕ) → searched (supercodeTrellis short (levelValues 0) soft 0) limit ≡ searched (wholeTrellis short (levelValues 0) soft 0) limit
   unfolding generator
   level-0-searches-are-one = Demand.searches-are-one short 0 (searchable 0 (lit< tt)) (levelValues 0) soft refl
+
+  -- so the stack of a search with some places never runs empty there
+  pub level-0-is-never-emptied : (places limit c : ℕ) → 0 < places → searchedWithin places (supercodeTrellis short (levelValues 0) soft 0) limit .result ≡ spent c → c ≡ limit
+  unfolding generator
+  level-0-is-never-emptied = Bounded.never-emptied short 0 (searchable 0 (lit< tt)) (levelValues 0) soft refl

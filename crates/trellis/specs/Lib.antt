@@ -4,3 +4,4 @@ pub mod Trellis
 pub mod Demand
 pub mod Keys
 pub mod TwoWords
+pub mod Bounded

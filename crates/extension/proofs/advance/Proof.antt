@@ -107,18 +107,18 @@ value-of-requires : tie.Need-value-of-requires
 value-of-requires c κs =
     let e = c .before .before .before .before .before .before in
     let a = start e in
-    (a .pre .1 .0 .soft (a .args .l) (less e), c .read-bit .ensures, a .pre .1 .0 .entries)
+    (a .pre .1 .0 .soft (a .args .l) (less e), c .read-bit .ensures .0, a .pre .1 .0 .entries)
 
 add-sb : tie.Need-add-sb
 add-sb c =
     let e = c .before .before .before .before .before .before .before in
-    sum-fits _ _ (start e .fits .s) (record { sfits = c .value-of .ok }) (added e _ (c .before .read-bit .result) (c .before .read-bit .ensures) (c .value-of .ensures))
+    sum-fits _ _ (start e .fits .s) (record { sfits = c .value-of .ok }) (added e _ (c .before .read-bit .result) (c .before .read-bit .ensures .0) (c .value-of .ensures))
 
 other-value-requires : tie.Need-other-value-requires
 other-value-requires c κs =
     let e = c .before .before .before .before .before .before .before in
     let a = start e in
-    (a .pre .1 .0 .soft (a .args .l) (less e), c .before .read-bit .ensures, a .pre .1 .0 .entries)
+    (a .pre .1 .0 .soft (a .args .l) (less e), c .before .read-bit .ensures .0, a .pre .1 .0 .entries)
 
 add-so : tie.Need-add-so
 add-so c =
@@ -128,7 +128,7 @@ add-so c =
 add-cb : tie.Need-add-cb
 add-cb c =
     let e = c .before .before .before .before .before .before .before .before in
-    omega (arith, double e, c .before .before .read-bit .ensures)
+    omega (arith, double e, c .before .before .read-bit .ensures .0)
 
 add-co : tie.Need-add-co
 add-co c =
@@ -148,7 +148,7 @@ exchange-requires c κs =
     let a = start e in
     let n = a .args .n in
     let most = a .pre .1 .0 .most in
-    let kt = extended e (v1 .value-of .result) (rd .read-bit .result) (rd .read-bit .ensures) (v1 .value-of .ensures) (record { sfits = v1 .value-of .ok }) in
+    let kt = extended e (v1 .value-of .result) (rd .read-bit .result) (rd .read-bit .ensures .0) (v1 .value-of .ensures) (record { sfits = v1 .value-of .ok }) in
     let ku = extended e (v2 .other-value .result) (1 - rd .read-bit .result) (omega arith) (v2 .other-value .ensures) (record { sfits = v2 .other-value .ok }) in (
       omega (arith, a .pre .0),
       (
@@ -173,12 +173,12 @@ returns-2 c =
     let e = un .before .before .before .before in
     let a = start e in
     let t = rd .read-bit .result in
-    let kt = extended e (v1 .value-of .result) t (rd .read-bit .ensures) (v1 .value-of .ensures) (record { sfits = v1 .value-of .ok }) in
+    let kt = extended e (v1 .value-of .result) t (rd .read-bit .ensures .0) (v1 .value-of .ensures) (record { sfits = v1 .value-of .ok }) in
     let ku = extended e (v2 .other-value .result) (1 - t) (omega arith) (v2 .other-value .ensures) (record { sfits = v2 .other-value .ok }) in (
       c .before .exchange .ensures .0,
       advanced-at _ _ _ _ _ _ _ _ _ _ (record { sfits = c .struct-told .given .0 .1 })
           (advanced-both (a .args .n) (a .args .col .now) (a .args .left .now) (a .args .right .now) (a .args .values .now) (a .pre .1 .0) (a .args .s) (a .args .l) (a .args .b) (less e) (a .pre .1 .1 .0) _ _ (a .args .paths) (a .pre .1 .1 .1 .1 .1)
-          _ t (1 - t) _ _ _ (sym (un .unchecked .ensures) ∙ rd .before .if2 .taken) (rd .read-bit .ensures) refl kt ku (rs .rise .ensures .1 .1) (c .before .exchange .ensures .1)),
+          _ t (1 - t) _ _ _ (sym (un .unchecked .ensures) ∙ rd .before .if2 .taken) (rd .read-bit .ensures .0) refl kt ku (rs .rise .ensures .1 .1) (c .before .exchange .ensures .1)),
     )
 
 parity-under-requires : tie.Need-parity-under-requires

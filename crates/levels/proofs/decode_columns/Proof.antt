@@ -8,6 +8,7 @@ use Rattle.stack.specs.Places.{Room}
 use Rattle.search.specs.Outcomes.{searchOf}
 use Rattle.list_of_two.specs.Ways.{choiceOf}
 use Rattle.readings.specs.Steps.{wayReader}
+use Rattle.concatenated.proofs.Readings.{short-readers-read-words}
 use Rattle.concatenated.proofs.Lows.{short-page-low-from}
 use Rattle.levels.proofs.LevelRuns.{Decoding, decoding-none, decoding-more, decoding-refused, decoding-answered}
 use borrow.Author.Tests.{not-true, not-false}
@@ -71,7 +72,7 @@ loop-again c =
 returns-2 : tie.Need-returns-2 Inv-loop μ-loop
 returns-2 c =
     let a = c .before .before in
-    decoding-answered _ _ _ _ _ _ _ _ _ (c .before .loop .inv .0) (c .loop-test .left) (short-page-low-from (choiceOf (a .args .way)) (searchOf (a .args .way .«in_supercodes»)) (a .args .way .limit) _ (a .pre .1 .many))
+    decoding-answered _ _ _ _ _ _ _ _ _ (c .before .loop .inv .0) (c .loop-test .left) (short-page-low-from (a .args .way .limit) _ (short-readers-read-words (choiceOf (a .args .way)) (searchOf (a .args .way .«in_supercodes»)) (a .args .way .limit)) _ (a .pre .1 .many))
 
 pub decode-columns-spec : {M : Type 1} → statement M
 decode-columns-spec =

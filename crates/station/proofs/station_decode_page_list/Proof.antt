@@ -4,6 +4,7 @@ use Rattle.trellis.specs.TwoWords.{on}
 use Rattle.page.specs.Outcomes.{dataBuffer}
 use Rattle.station.proofs.Asked.{number-is-small}
 use Rattle.station.proofs.PageReturns.{refused-by-length, report-may-be-written, returned-by-the-call}
+use Rattle.trellis.specs.Demand.{supercode}
 use Rattle.store_pages.proofs.Asked.{as-handed-on}
 use native.Mathlib.Omega.{arith}
 use borrow.Author.Needs.{needs}
@@ -41,7 +42,7 @@ returns-2 : tie.Need-returns-2
 returns-2 c =
     let start = c .before .before .before .before .before .before .before .before .before .before .before .before .before in
     let args = start .args in
-    let page = as-handed-on true (args .threshold) (start .fits .threshold) (c .before .before .before .before .before .before .decode-page-list .ensures) in
+    let page = as-handed-on true (args .threshold) (start .fits .threshold) supercode (c .before .before .before .before .before .before .decode-page-list .ensures) in
     returned-by-the-call dataBuffer (on (args .threshold)) (args .soft .now) (args .limit) (args .«data» .now) (args .report .now) _ (c .before .before .before .before .before .before .before .before .before .lengths-asked .ensures) (c .before .before .before .before .before .before .before .before .if1 .left) _ _ page _ _ (c .before .before .returned-page .ensures)
 
 pub station-decode-page-list-spec : {M : Type 1} → statement M

@@ -1,0 +1,2 @@
+pub mod ChipRows
+pub mod ChipLevels
