@@ -1,2 +1,4 @@
 pub mod Answers
+pub mod Calls
 pub mod Pages
+pub mod Decoders

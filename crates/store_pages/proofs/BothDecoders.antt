@@ -50,7 +50,7 @@ buffers-agree B d old (answered ls m) (refused k) e = absurd e
 buffers-agree B d old (refused l) (answered ks n) e = absurd e
 buffers-agree B d old (refused l) (refused k) e = refl
 
-refusals-agree : (d n p : ℕ) → (n ≡ 0 → ⊥) → SameButSteps d (refusedPage n p) (refusedPage n p)
+pub refusals-agree : (d n p : ℕ) → (n ≡ 0 → ⊥) → SameButSteps d (refusedPage n p) (refusedPage n p)
 refusals-agree d n p some = record { number = refl; place = refl; changed = refl; erased = refl; changed-marks = refl; erased-marks = refl; low = refl; steps = λ z. absurd (some z) }
 
 -- the same questions lead both calls to the same refusal, or both on
