@@ -12,6 +12,7 @@ test: tools listed
 	$(call prove,store_columns store_searches store_batches store_rows store_pages store_dumps listing)
 	@tests/run-vectors tests/vectors tests/libfec tests/known
 	@tests/run-batch
+	@tests/run-chip
 	@tests/run-station
 	@tests/run-readpage
 	@tests/run-documents

@@ -1,12 +1,13 @@
 /* The aging study: readings of worn flash are simulated and given to the store. `aging pages` writes what came back of whole pages, `aging columns` how often
    a column of each level was misread or unread, `aging spreads` the same for other thresholds of the reading, `aging ties` how much the written word matters,
-   `aging lists` what list of two changes for whole pages; each as a table for bench/aging_bound.py and bench/aging_tables.py. */
+   `aging lists` what list of two changes for whole pages, `aging chip` how often the chip's stack of 64 places overflows and what that changes; each as a table
+   for bench/aging_bound.py and bench/aging_tables.py. */
 #include "../tests/entries.h"
 #include "inputs.h"
 #include <stdio.h>
 #include <string.h>
 
-enum { DATA = 150, WRITTEN = 252, SOFT = 1890, PAGES = 2000, LIMITS = 3, WAYS = 5, READINGS = 8, CONTROL = 1000 };
+enum { DATA = 150, WRITTEN = 252, SOFT = 1890, PAGES = 2000, CHIP_PAGES = 10000, COLUMNS = 63, LIMITS = 3, WAYS = 5, READINGS = 8, CONTROL = 1000 };
 
 static const uint64_t limits[LIMITS] = {200, 500, 2000};
 
@@ -21,6 +22,7 @@ static const int column_rates[] = {5,    8,    9,    10,   11,   12,   13,   15,
                                    230,  260,  290,  320,  350,  400,  500,  600,  800,  900,  1000,  1100,  1200,  1300,
                                    1500, 2000, 2250, 2500, 2750, 3000, 3500, 4000, 6000, 8000, 10000, 15000, 20000, 30000, 40000};
 static const int list_rates[] = {1000, 5000, 20000, 35000, 40000};
+static const int chip_rates[] = {5000, 20000, 40000};
 static const int tie_rates[] = {11, 230, 290, 1100, 2250};
 static const int spread_rates[] = {2, 5, 10, 20, 50, 100, 200, 500, 1000, 2000, 4000, 6000, 8000};
 
@@ -147,6 +149,71 @@ static void lists(int rate, uint64_t limit) {
     fflush(stdout);
 }
 
+/* Columns of a level, searched with 64 places and without a bound: those where a path was pushed out, those ended by 9 and by 13, those answered that are misread or, where both answer, another word,
+   and those that one search reads rightly and the other does not. */
+typedef struct { uint64_t pushed, spent[2], emptied, misread[2], other, lost, gained, steps[2]; } chip_tally;
+
+static void tally_chip(chip_found c, found s, uint64_t word, uint64_t limit, chip_tally *t) {
+    const int by_chip = !c.number && c.word == word, by_supercode = !s.number && s.word == word;
+    t->pushed += c.pushed;
+    t->spent[0] += c.number == 9;
+    t->spent[1] += s.number == 9;
+    t->emptied += c.number == 13;
+    t->misread[0] += !c.number && c.word != word;
+    t->misread[1] += !s.number && s.word != word;
+    t->other += !c.number && !s.number && c.word != s.word;
+    t->lost += by_supercode && !by_chip;
+    t->gained += by_chip && !by_supercode;
+    t->steps[0] += c.count;
+    t->steps[1] += s.number ? limit : s.count;
+}
+
+/* The columns of a page, at each level those with the written words of the levels before it taken off. */
+static void chip_columns(const uint8_t *data, const uint8_t *soft, uint64_t limit, chip_tally *tallies) {
+    uint8_t written[WRITTEN], column[BITS];
+    entry_encode_page(data, DATA, written, WRITTEN);
+    for (int j = 0; j < COLUMNS; j++) {
+        uint64_t word = 0;
+        for (int k = 0; k < 4; k++) word = word << 8 | written[4 * j + k];
+        word >>= 2;
+        memcpy(column, soft + BITS * j, BITS);
+        for (uint64_t i = 0; i < LEVELS; i++) {
+            tally_chip(entry_search_chip(column, BITS, i, limit), entry_search_supercode(i, column, BITS, limit), word, limit, &tallies[i]);
+            const uint64_t of_level = entry_level_word(i, entry_reimage(i, word).value).value;
+            for (int k = 0; k < BITS; k++) if (of_level >> (BITS - 1 - k) & 1) column[k] = (uint8_t)(7 - column[k]);
+            word ^= of_level;
+        }
+    }
+}
+
+/* Pages drawn as above, one decode each by the chip's search and by the supercode search, and their columns by both. */
+static void chip(int rate) {
+    page_tally by_chip[LIMITS] = {0}, by_supercode[LIMITS] = {0};
+    uint64_t pushed[LIMITS] = {0};
+    chip_tally tallies[LIMITS][LEVELS] = {0};
+    start(rate, 1, (uint64_t)rate);
+    for (int p = 0; p < CHIP_PAGES; p++) {
+        uint8_t data[DATA], soft[SOFT], back[DATA];
+        draw_page(data, soft);
+        for (int l = 0; l < LIMITS; l++) {
+            const chip_paged c = entry_decode_page_chip(soft, SOFT, limits[l], back, DATA);
+            tally_page(c.page, back, data, &by_chip[l]);
+            pushed[l] += c.pushed;
+            tally_page(entry_decode_page(soft, SOFT, limits[l], back, DATA), back, data, &by_supercode[l]);
+            chip_columns(data, soft, limits[l], tallies[l]);
+        }
+    }
+    for (int l = 0; l < LIMITS; l++)
+        for (int i = 0; i < LEVELS; i++) {
+            const page_tally c = by_chip[l], s = by_supercode[l];
+            const chip_tally t = tallies[l][i];
+            printf("%d,%d,%d,%d,%d,%d,%d,%d,%d,", rate, (int)limits[l], i, CHIP_PAGES, (int)pushed[l], CHIP_PAGES - (int)c.answered, (int)c.wrong, CHIP_PAGES - (int)s.answered, (int)s.wrong);
+            printf("%d,%d,%d,%d,%d,%d,%d,%d,%d,%d,%.0f,%.0f\n", CHIP_PAGES * COLUMNS, (int)t.pushed, (int)t.spent[0], (int)t.emptied, (int)t.spent[1], (int)t.misread[0], (int)t.misread[1], (int)t.other,
+                   (int)t.lost, (int)t.gained, (double)t.steps[0], (double)t.steps[1]);
+        }
+    fflush(stdout);
+}
+
 typedef struct { uint64_t misread, unread, steps; } column_tally;
 
 /* What a search with this limit gives, seen from the search with the largest: the word does not depend on the limit, and the search is spent exactly if the
@@ -269,6 +336,10 @@ int main(int argc, char **argv) {
         printf("rate,limit,list,threshold,pages,back,refused,wrong,steps,changed0,changed1,changed2,changed3\n");
         for (size_t r = 0; r < sizeof list_rates / sizeof *list_rates; r++)
             for (int l = 0; l < LIMITS; l++) lists(list_rates[r], limits[l]);
+    } else if (!strcmp(argv[1], "chip")) {
+        printf("rate,limit,level,pages,pages_pushed,refused,wrong,supercode_refused,supercode_wrong,columns,pushed,spent,emptied,supercode_spent,misread,supercode_misread,other_word,lost,gained,steps,"
+               "supercode_steps\n");
+        for (size_t r = 0; r < sizeof chip_rates / sizeof *chip_rates; r++) chip(chip_rates[r]);
     } else if (!strcmp(argv[1], "ties")) {
         printf("rate,level,limit,columns,last_word,any_word\n");
         for (size_t r = 0; r < sizeof tie_rates / sizeof *tie_rates; r++)

@@ -1,6 +1,6 @@
 #!/usr/bin/env python3
-"""Writes the tables of docs/AGING.md, each between its two marks, from docs/aging-pages.csv, aging-columns.csv, aging-spreads.csv, aging-ties.csv, aging-lists.csv
-and aging-bound.csv, and from aging-columns-before.csv and aging-bound-before.csv, which keep the study before document 02's point 3."""
+"""Writes the tables of docs/AGING.md, each between its two marks, from docs/aging-pages.csv, aging-columns.csv, aging-spreads.csv, aging-ties.csv, aging-lists.csv,
+aging-chip.csv and aging-bound.csv, and from aging-columns-before.csv and aging-bound-before.csv, which keep the study before document 02's point 3."""
 import itertools
 import math
 import os
@@ -208,6 +208,37 @@ def list_table(lists):
     return lines(["raw errors", "limit", *heads], [[percent(rate), f"{limit:,}", *(row[head] for head in heads)] for (rate, limit), row in rows.items()])
 
 
+def by_limit(chip):
+    """Of each rate and limit: its rows by level."""
+    grouped = {}
+    for r in chip:
+        grouped.setdefault((r["rate"], int(r["limit"])), []).append(r)
+    return grouped
+
+
+def share(part, whole):
+    return f"{100 * part / whole:.3g} %"
+
+
+def chip_table(chip):
+    """Of each rate and limit, levels together: how often the chip's stack overflows; of the chip's search and the supercode search what comes of the columns and the pages."""
+    rows = []
+    for (rate, limit), levels in by_limit(chip).items():
+        page, total = levels[0], {key: sum(r[key] for r in levels) for key in levels[0]}
+        both = lambda of, a, b: f"{int(of[a]):,} / {int(of[b]):,}"
+        rows.append([percent(rate), f"{limit:,}", share(total["pushed"], total["columns"]), share(page["pages_pushed"], page["pages"]), both(total, "spent", "supercode_spent"), f"{int(total['emptied']):,}",
+                     both(total, "misread", "supercode_misread"), f"{int(total['other_word']):,}", f"{total['steps'] / total['columns']:.1f} / {total['supercode_steps'] / total['columns']:.1f}",
+                     both(page, "refused", "supercode_refused"), both(page, "wrong", "supercode_wrong")])
+    return lines(["raw errors", "limit", "columns with a path pushed out", "pages with one", "by 9", "by 13", "misread", "another word", "steps a column", "pages refused", "pages wrong"], rows)
+
+
+def chip_level_table(chip):
+    """Of each rate and limit by level: how often the chip's stack overflows, and which columns one search alone reads rightly."""
+    cell = lambda levels, key: " / ".join(f"{int(r[key]):,}" for r in levels)
+    rows = [[percent(rate), f"{limit:,}", " / ".join(share(r["pushed"], r["columns"]) for r in levels), cell(levels, "lost"), cell(levels, "gained")] for (rate, limit), levels in by_limit(chip).items()]
+    return lines(["raw errors", "limit", "a path pushed out", "right without a bound alone", "right with the chip alone"], rows)
+
+
 def decibels(rate):
     """E_b/N_0 of a raw bit error rate r = Q(sqrt(2 R E_b/N_0))."""
     return f"{10 * math.log10(inverse_tail(rate / 1e6) ** 2 / (2 * CODE_RATE)):.1f} dB"
@@ -263,11 +294,12 @@ def totals(pages, columns):
 
 
 def main():
-    pages, columns, spreads, ties, lists, bounds = (table(f"aging-{kind}.csv") for kind in ("pages", "columns", "spreads", "ties", "lists", "bound"))
+    pages, columns, spreads, ties, lists, chip, bounds = (table(f"aging-{kind}.csv") for kind in ("pages", "columns", "spreads", "ties", "lists", "chip", "bound"))
     before, by_case_before, by_case = table("aging-bound-before.csv"), cases(table("aging-columns-before.csv")), cases(columns)
     texts = {"cost": cost_table(before, by_case_before, bounds, by_case), "promise": promise_table(bounds, by_case), "figure": figure(before, bounds),
              "totals": totals(pages, columns), "pages": page_table(pages), "erased": erased_table(pages), "columns": column_table(columns, DEFAULT),
              "bound": bound_table(bounds), "levels": level_table(bounds, (DEFAULT, 0)), "check": check_table(pages, bounds), "ties": tie_table(ties), "lists": list_table(lists),
+             "chip": chip_table(chip), "chip levels": chip_level_table(chip),
              "room": room_table(bounds, by_case), "spreads": spread_table(columns + spreads), "paper": paper_table(before, bounds)}
     page = os.path.join(DOCS, "AGING.md")
     with open(page) as old:

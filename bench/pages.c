@@ -1,5 +1,6 @@
 /* Pages: the store's coding, decoding (supercode search, without list of two and with it) and committing, questions included, and the C baseline's on the same pages,
-   in one process, in turns; the least of the rounds counts. Every page's bytes, steps, changed and erased columns with their marks, low points and refusals are compared. */
+   in one process, in turns; the least of the rounds counts. Every page's bytes, steps, changed and erased columns with their marks, low points and refusals are compared.
+   Decoding by the chip's search stands beside decoding by the supercode search, and the two are the same where no path was pushed out. */
 #include "../tests/entries.h"
 #include "inputs.h"
 #include "page_baseline.h"
@@ -49,13 +50,18 @@ static int decode(int way, int p, const limits *use) {
     return again;
 }
 
+/* The written pages, read with noise of the given strength. */
+static void fill(double sigma) {
+    for (int p = 0; p < PAGES; p++)
+        for (int n = 0; n < SOFT; n++) soft[p][n] = soft_of(written[1][p][n / BITS * 4 + n % BITS / 8] >> (7 - n % BITS % 8) & 1, sigma);
+}
+
 /* The rows of one use of the limits; whether an answer differs. */
 static int decoding(const limits *use) {
     int differ = 0;
     printf("page decoding, supercode search, %s, microseconds a page: store | C with the plain heap, ratio | with the packed heap, ratio\n", use->name);
     for (int k = 0; k < KINDS; k++) {
-        for (int p = 0; p < PAGES; p++)
-            for (int n = 0; n < SOFT; n++) soft[p][n] = soft_of(written[1][p][n / BITS * 4 + n % BITS / 8] >> (7 - n % BITS % 8) & 1, kinds[k].sigma);
+        fill(kinds[k].sigma);
         double best[WAYS] = {1e9, 1e9, 1e9};
         int twice = 0;
         memset(back, 0, sizeof back);
@@ -80,6 +86,45 @@ static int decoding(const limits *use) {
                best[2] / PAGES * 1e6, best[0] / best[2], PAGES, right, refused);
         if (use->then) printf(", %d decoded twice", twice);
         printf("; %.0f steps a page not refused)%s\n", refused < PAGES ? (double)steps / (PAGES - refused) : 0.0, wrong ? "  ANSWERS DIFFER" : "");
+    }
+    return differ;
+}
+
+/* What the chip's page decoding tells is what the supercode decoder tells. */
+static int same_page(const paged *c, const paged *s) {
+    return c->number == s->number && c->place == s->place && c->steps == s->steps && c->low == s->low && !memcmp(c->changed, s->changed, sizeof c->changed) && !memcmp(c->erased, s->erased, sizeof c->erased)
+           && !memcmp(c->changed_marks, s->changed_marks, sizeof c->changed_marks) && !memcmp(c->erased_marks, s->erased_marks, sizeof c->erased_marks);
+}
+
+/* The rows of decoding by the chip's search; whether a page without a path pushed out differs. */
+static int chips(int limit) {
+    static chip_paged by_chip[PAGES];
+    static paged by_supercode[PAGES];
+    int differ = 0;
+    printf("page decoding, the chip's search, 64 places, limit %d, microseconds a page: store | store with the supercode search, ratio\n", limit);
+    for (int k = 0; k < KINDS; k++) {
+        double best[2] = {1e9, 1e9};
+        int pushed = 0, refused[2] = {0, 0}, wrong = 0;
+        fill(kinds[k].sigma);
+        memset(back, 0, sizeof back);
+        for (int round = 0; round < ROUNDS; round++)
+            for (int way = 0; way < 2; way++) {
+                const int chip = (way + round) % 2;
+                double t = seconds();
+                for (int p = 0; p < PAGES; p++)
+                    if (chip) by_chip[p] = entry_decode_page_chip(soft[p], SOFT, (uint64_t)limit, back[1][p], DATA);
+                    else by_supercode[p] = entry_decode_page(soft[p], SOFT, (uint64_t)limit, back[0][p], DATA);
+                least(&best[chip], t);
+            }
+        for (int p = 0; p < PAGES; p++) {
+            pushed += by_chip[p].pushed;
+            refused[1] += by_chip[p].page.number != 0;
+            refused[0] += by_supercode[p].number != 0;
+            wrong |= !by_chip[p].pushed && (!same_page(&by_chip[p].page, &by_supercode[p]) || memcmp(back[0][p], back[1][p], DATA));
+        }
+        differ |= wrong;
+        printf("%-14s %9.3f | %9.3f %.2f  (of %d pages %d pushed a path out; %d refused, with the supercode search %d)%s\n", kinds[k].name, best[1] / PAGES * 1e6, best[0] / PAGES * 1e6, best[1] / best[0],
+               PAGES, pushed, refused[1], refused[0], wrong ? "  ANSWERS DIFFER" : "");
     }
     return differ;
 }
@@ -128,6 +173,10 @@ int main(void) {
     for (int u = 0; u < USES; u++) {
         state = drawn; /* the same pages for every use */
         differ |= decoding(&uses[u]);
+    }
+    for (int limit = 200; limit <= 500; limit += 300) {
+        state = drawn;
+        differ |= chips(limit);
     }
     return differ;
 }

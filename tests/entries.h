@@ -16,6 +16,12 @@ typedef struct { uint64_t number, place; } filled;
 /* What page decoding and asking tell: of each level the totals and the marks, column j at bit j; and the low point. */
 typedef struct { uint64_t number, place, steps; uint8_t changed[4], erased[4]; uint64_t changed_marks[4], erased_marks[4]; int16_t low; } paged;
 
+/* What the chip's search tells: where number is 0 the word, the count and the low point; where it is 9 or 13 the paths taken as the count, and no word; of both whether a path was pushed out. */
+typedef struct { uint64_t number, place, word, count; int16_t low; uint8_t pushed; } chip_found;
+
+/* What page decoding by the chip's search tells: as page decoding, and whether any search made pushed a path out, which a 10 tells too. */
+typedef struct { paged page; uint8_t pushed; } chip_paged;
+
 /* A part of the caller's own bytes. */
 typedef struct { const uint8_t *bytes; size_t count; } part;
 
@@ -26,6 +32,7 @@ found entry_search_whole(uint64_t level, const uint8_t *soft, size_t count, uint
 found entry_search_supercode(uint64_t level, const uint8_t *soft, size_t count, uint64_t limit);
 found entry_search_whole_list(uint64_t level, const uint8_t *soft, size_t count, uint64_t limit, int64_t threshold);
 found entry_search_supercode_list(uint64_t level, const uint8_t *soft, size_t count, uint64_t limit, int64_t threshold);
+chip_found entry_search_chip(const uint8_t *soft, size_t count, uint64_t level, uint64_t limit);
 filled entry_encode_row(uint64_t level, const uint8_t *data, size_t count, uint8_t *out, size_t room);
 filled entry_decode_row(uint64_t level, const uint8_t *symbols, size_t count, const uint8_t *marks, size_t marked, uint8_t *out, size_t room);
 filled entry_encode_page(const uint8_t *data, size_t count, uint8_t *out, size_t room);
@@ -37,6 +44,7 @@ paged entry_decode_page_list(const uint8_t *soft, size_t count, uint64_t limit, 
 paged entry_decode_page_whole_list(const uint8_t *soft, size_t count, uint64_t limit, int64_t threshold, uint8_t *data, size_t room);
 paged entry_ask_page_list(const uint8_t *soft, size_t count, uint64_t limit, int64_t threshold, uint8_t *symbols, size_t room);
 paged entry_ask_page_whole_list(const uint8_t *soft, size_t count, uint64_t limit, int64_t threshold, uint8_t *symbols, size_t room);
+chip_paged entry_decode_page_chip(const uint8_t *soft, size_t count, uint64_t limit, uint8_t *data, size_t room);
 filled entry_commit_page(const uint8_t *symbols, size_t count, uint8_t *data, size_t room);
 void entry_column_of(const uint8_t *page, size_t count, size_t column, part *out);
 filled entry_write_dump(const uint8_t *soft, size_t count, uint8_t *out, size_t room);

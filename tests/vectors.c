@@ -170,6 +170,20 @@ static verdict list_line(const record *r) {
     return same_found(answer, told) && told.low == walk_of(soft, level, told.word).low && way_told(r->field[8], soft, level, limit, threshold, answer, first) ? SAME : DIFFERS;
 }
 
+/* chip.txt: an answer or a refusal has the paths taken and whether one was pushed out; the low point is reckoned here as well. */
+static verdict chip_line(const record *r) {
+    uint8_t soft[BITS];
+    if (r->count != 9 || strlen(r->field[0]) != BITS) return DIFFERS;
+    for (size_t i = 0; i < BITS; i++) soft[i] = (uint8_t)(r->field[0][i] - '0');
+    const uint64_t level = decimal(r->field[1]);
+    const chip_found f = entry_search_chip(soft, BITS, level, decimal(r->field[2]));
+    if (!strcmp(r->field[3], "refused") && !strcmp(r->field[5], "pushed") && !strcmp(r->field[7], "steps"))
+        return f.number == decimal(r->field[4]) && !f.place && f.pushed == decimal(r->field[6]) && f.count == decimal(r->field[8]) && !f.word && !f.low ? SAME : DIFFERS;
+    if (strcmp(r->field[3], "ok") || strcmp(r->field[7], "pushed") || f.number || f.place) return DIFFERS;
+    if (f.low != atoi(r->field[6]) || f.low != walk_of(soft, level, f.word).low) return DIFFERS;
+    return f.word == decimal(r->field[4]) && f.count == decimal(r->field[5]) && f.pushed == decimal(r->field[8]) ? SAME : DIFFERS;
+}
+
 /* What a row call wrote is the word of the line, or nothing. */
 static verdict wrote(filled f, const uint8_t *out, const char *expected) {
     uint8_t word[ROW];
@@ -369,6 +383,22 @@ static verdict report_line(const record *r) {
     return p.number == 0 && p.steps == decimal(r->field[5]) && p.low == atoi(r->field[7]) && level_marks(&p, r->field + 8) && data_of_line(out, r->field[24]) ? SAME : DIFFERS;
 }
 
+/* chip-pages.txt: as reports.txt, with the flag, which a refusal tells too. */
+static verdict chip_page_line(const record *r) {
+    uint8_t out[WRITTEN];
+    if (strcmp(r->field[0], "expect")) return page_line(r);
+    if (r->count < 9 || strcmp(r->field[1], "chip") || strcmp(r->field[3], "-")) return DIFFERS;
+    memset(out, UNTOUCHED, sizeof out);
+    const chip_paged c = entry_decode_page_chip(page_soft, SOFT, decimal(r->field[2]), out, DATA);
+    const paged p = c.page;
+    if (!report_right(&p)) return DIFFERS;
+    if (!strcmp(r->field[4], "refused") && !strcmp(r->field[7], "pushed") && r->count == 9)
+        return p.number == decimal(r->field[5]) && p.place == decimal(r->field[6]) && c.pushed == decimal(r->field[8]) && untouched(out, sizeof out) ? SAME : DIFFERS;
+    if (strcmp(r->field[4], "ok") || strcmp(r->field[6], "low") || strcmp(r->field[8], "pushed") || r->count != 27) return DIFFERS;
+    return p.number == 0 && p.steps == decimal(r->field[5]) && p.low == atoi(r->field[7]) && c.pushed == decimal(r->field[9]) && level_marks(&p, r->field + 10) && data_of_line(out, r->field[26])
+           && untouched(out + DATA, sizeof out - DATA) ? SAME : DIFFERS;
+}
+
 /* commit.txt: what is written encodes to the same rows. */
 static verdict commit_line(const record *r) {
     uint8_t symbols[LINE], data[DATA], out[2 * DATA], page[WRITTEN];
@@ -510,7 +540,7 @@ static void check_dump(const char *folder, const char *name) {
 }
 
 static const struct { const char *name; verdict (*line_of)(const record *); } texts[] = {
-    {"code.txt", code_line}, {"columns.txt", column_line}, {"search.txt", low_line}, {"lows.txt", low_line}, {"list2.txt", list_line}, {"outer.txt", outer_line}, {"pages.txt", page_line}, {"reports.txt", report_line}, {"commit.txt", commit_line}, {"refusals.txt", refusal_line},
+    {"code.txt", code_line}, {"columns.txt", column_line}, {"search.txt", low_line}, {"lows.txt", low_line}, {"list2.txt", list_line}, {"chip.txt", chip_line}, {"outer.txt", outer_line}, {"pages.txt", page_line}, {"reports.txt", report_line}, {"chip-pages.txt", chip_page_line}, {"commit.txt", commit_line}, {"refusals.txt", refusal_line},
 };
 enum { TEXTS = sizeof texts / sizeof texts[0] };
 
