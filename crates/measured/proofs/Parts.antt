@@ -6,17 +6,11 @@ use native.Mathlib.Omega.{arith}
 use lib.Bits.{bitXor}
 use lib.ListN.{length, take, drop, getD, length-take, length-drop}
 use lib.Seq.{getD-drop, getD-take}
-use Rattle.paths.specs.Search.{SearchResult}
-use Rattle.column.specs.Shape.{short}
-use Rattle.trellis.specs.Values.{levelValues}
 use Rattle.trellis.specs.Demand.{Search}
-use Rattle.trellis.specs.Trellis.{WordFound}
-use Rattle.trellis.specs.TwoWords.{Choice, searchedBy}
+use Rattle.trellis.specs.TwoWords.{Choice}
 use Rattle.list_of_two.specs.declared.Way.{Way}
 use Rattle.list_of_two.specs.Ways.{choiceOf}
-use Rattle.search.specs.Outcomes.{codeOutcome}
-use Rattle.search.specs.declared.SearchOutcome.{SearchOutcome}
-use Rattle.measured.specs.Folds.{folded, foldedColumns}
+use Rattle.measured.specs.Folds.{foldedColumns, searchedNumber}
 
 module _ (soft : List ℕ) (a : ℕ) (fits : a + 30 ≤ length soft) where
   pub part-long : length (take (a + 30 - a) (drop a soft)) ≡ 30
@@ -29,20 +23,19 @@ module _ (soft : List ℕ) (a : ℕ) (fits : a + 30 ≤ length soft) where
       at = let within : k < a + 30 - a = omega arith in rw (getD-take, getD-drop)
 
 -- the columns before a, whole columns, are searched
-pub record Folded (search : List ℕ → SearchResult WordFound) (soft : List ℕ) (a fold : ℕ) : Type 0 where
-  pub fold-so : fold ≡ foldedColumns search soft (a / 30)
+pub record Folded (value : List ℕ → ℕ) (soft : List ℕ) (a fold : ℕ) : Type 0 where
+  pub fold-so : fold ≡ foldedColumns value soft (a / 30)
 
-module _ (search : List ℕ → SearchResult WordFound) (soft : List ℕ) where
-  pub none-folded : Folded search soft 0 0
+module _ (value : List ℕ → ℕ) (soft : List ℕ) where
+  pub none-folded : Folded value soft 0 0
   unfolding foldedColumns
   none-folded = record { fold-so = refl }
 
-  pub one-more-folded : (a fold : ℕ) (r : SearchOutcome) → a % 30 ≡ 0 → Folded search soft a fold → r ≡ codeOutcome (search (take (a + 30 - a) (drop a soft)))
-      → Folded search soft (a + 30) (bitXor fold (folded r))
+  pub one-more-folded : (a fold r : ℕ) → a % 30 ≡ 0 → Folded value soft a fold → r ≡ value (take (a + 30 - a) (drop a soft)) → Folded value soft (a + 30) (bitXor fold r)
   unfolding foldedColumns
   one-more-folded a fold r whole f e =
       let column : take (a + 30 - a) (drop a soft) ≡ take 30 (drop (a / 30 * 30) soft) = ap₂ (λ (k j : ℕ). take k (drop j soft)) length-is start-is in
-      record { fold-so = ap₂ (λ (x : ℕ) (o : SearchOutcome). bitXor x (folded o)) (f .fold-so) (e ∙ ap (λ (c : List ℕ). codeOutcome (search c)) column) ∙ ap (foldedColumns search soft) next }
+      record { fold-so = ap₂ bitXor (f .fold-so) (e ∙ ap value column) ∙ ap (foldedColumns value soft) next }
     where
       length-is : a + 30 - a ≡ 30
       length-is = omega arith
@@ -53,10 +46,10 @@ module _ (search : List ℕ → SearchResult WordFound) (soft : List ℕ) where
       next : suc (a / 30) ≡ (a + 30) / 30
       next = omega arith
 
-  pub all-folded : (a fold : ℕ) → a % 30 ≡ 0 → a ≤ length soft → length soft - a < 30 → Folded search soft a fold → fold ≡ foldedColumns search soft (length soft / 30)
-  all-folded a fold whole within last f = let same : a / 30 ≡ length soft / 30 = omega arith in f .fold-so ∙ ap (foldedColumns search soft) same
+  pub all-folded : (a fold : ℕ) → a % 30 ≡ 0 → a ≤ length soft → length soft - a < 30 → Folded value soft a fold → fold ≡ foldedColumns value soft (length soft / 30)
+  all-folded a fold whole within last f = let same : a / 30 ≡ length soft / 30 = omega arith in f .fold-so ∙ ap (foldedColumns value soft) same
 
 -- the searches in a way are those of the choice and limit that the way names
 pub folded-by-its-way : (way : Way) (choice : Choice) (limit : ℕ) → choiceOf way ≡ choice → way .limit ≡ limit → (s : Search) (soft : List ℕ) (i : ℕ)
-    → foldedColumns (λ c. searchedBy (choiceOf way) s short (levelValues i) (way .limit) c i) soft (length soft / 30) ≡ foldedColumns (λ c. searchedBy choice s short (levelValues i) limit c i) soft (length soft / 30)
-folded-by-its-way way choice limit same within s soft i = ap₂ (λ (x : Choice) (l : ℕ). foldedColumns (λ c. searchedBy x s short (levelValues i) l c i) soft (length soft / 30)) same within
+    → foldedColumns (searchedNumber (choiceOf way) s i (way .limit)) soft (length soft / 30) ≡ foldedColumns (searchedNumber choice s i limit) soft (length soft / 30)
+folded-by-its-way way choice limit same within s soft i = ap₂ (λ (x : Choice) (l : ℕ). foldedColumns (searchedNumber x s i l) soft (length soft / 30)) same within

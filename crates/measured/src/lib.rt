@@ -1,15 +1,16 @@
 // What bench/run measures: the searches of many columns over one set of arrays, as page decoding makes them. No part of the store.
+
+pub mod chip_searches;
+
 ghost use Prim.Native.Nat.{ℕ, _/_, _<_, _≤_};
 ghost use mathlib.Core.Path.{_≡_};
 ghost use lib.ListN.{length, getD};
-ghost use Rattle.column.specs.Shape.{short};
-ghost use Rattle.trellis.specs.Values.{levelValues};
 ghost use Rattle.trellis.specs.Demand.{Search};
-ghost use Rattle.trellis.specs.TwoWords.{off, on, searchedBy};
+ghost use Rattle.trellis.specs.TwoWords.{off, on};
 ghost use Rattle.search.specs.Outcomes.{TablesFor};
 ghost use Rattle.list_of_two.specs.Hard.{HardFor};
 ghost use Rattle.list_of_two.specs.Ways.{chosen, choiceOf};
-ghost use Rattle.measured.specs.Folds.{folded as foldedOf, foldedColumns, named, measuredAnswer};
+ghost use Rattle.measured.specs.Folds.{folded as foldedOf, foldedColumns, searchedNumber, named, measuredAnswer};
 use list_of_two::Way;
 use search::SearchOutcome;
 
@@ -40,7 +41,7 @@ fn search_all(
     requires { ⌜ ((s : Search) × (i : ℕ) × (i < 4) × TablesFor s i (now left) (now right) (now values) × HardFor (way .second) i (now values) (now checks) (now agreeing)) ⌝ }
     ensures { λ r. ⌜ ((s : Search) (i : ℕ) → i < 4 → TablesFor s i (now (left .entry)) (now (right .entry)) (now (values .entry))
         → HardFor (way .second) i (now (values .entry)) (now (checks .entry)) (now (agreeing .entry))
-        → r ≡ foldedColumns (λ c. searchedBy (choiceOf way) s short (levelValues i) (way .limit) c i) (now (soft .entry)) (length (now (soft .entry)) / 30)) ⌝ }
+        → r ≡ foldedColumns (searchedNumber (choiceOf way) s i (way .limit)) (now (soft .entry)) (length (now (soft .entry)) / 30)) ⌝ }
 {
     let mut sums = [0i16; 2002];
     let mut lens = [0u8; 2002];

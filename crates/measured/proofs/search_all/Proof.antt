@@ -1,20 +1,14 @@
 -- `measured::search_all` meets its contract. The loop's invariant: the columns before a are searched, and the arrays keep their places. Assumes nothing.
-use mathlib.Core.List.{List}
-use mathlib.Core.Path.{_≡_, subst⁻¹}
+use mathlib.Core.Path.{_≡_, ap, _∙_}
 use Prim.Native.Nat.{ℕ, _+_, _-_, _%_, _≤_, _<_}
-use lib.Bits.{bitXor}
 use lib.ListN.{length, take, drop}
-use Rattle.column.specs.Shape.{short}
-use Rattle.paths.specs.Search.{SearchResult}
-use Rattle.trellis.specs.Values.{levelValues}
 use Rattle.trellis.specs.Demand.{Search}
-use Rattle.trellis.specs.Trellis.{WordFound}
-use Rattle.trellis.specs.TwoWords.{searchedBy}
 use Rattle.search.specs.Outcomes.{TablesFor}
 use Rattle.list_of_two.specs.Hard.{HardFor}
 use Rattle.list_of_two.specs.Ways.{choiceOf}
 use Rattle.stack.specs.Places.{Room}
 use Rattle.search.proofs.ShortSearch.{column-searchable}
+use Rattle.measured.specs.Folds.{folded, searchedNumber}
 use Rattle.measured.proofs.Parts.{part-long, part-range, Folded, none-folded, one-more-folded, all-folded}
 use native.Mathlib.Omega.{arith}
 use borrow.Author.Needs.{needs}
@@ -23,7 +17,7 @@ use Rattle.measured.proofs.search_all.Tie as tie
 
 abbrev Inv-loop : tie.InvT-loop
 Inv-loop soft left right values checks agreeing way sums₀ lens₀ bits₀ fold₀ a₀ sums lens bits fold a = (a ≤ length soft) × (a % 30 ≡ 0) × Room sums lens bits
-    × ((s : Search) (i : ℕ) → i < 4 → TablesFor s i left right values → HardFor (way .second) i values checks agreeing → Folded (λ c. searchedBy (choiceOf way) s short (levelValues i) (way .limit) c i) soft a fold)
+    × ((s : Search) (i : ℕ) → i < 4 → TablesFor s i left right values → HardFor (way .second) i values checks agreeing → Folded (searchedNumber (choiceOf way) s i (way .limit)) soft a fold)
 
 abbrev μ-loop : tie.MeasureT-loop
 μ-loop soft left right values checks agreeing way sums₀ lens₀ bits₀ fold₀ a₀ sums lens bits fold a = length soft - a
@@ -83,9 +77,7 @@ loop-again c =
       found .search-by .ensures .0,
       λ s i h tables hard.
           let way = start .args .way in
-          let search : List ℕ → SearchResult WordFound = λ x. searchedBy (choiceOf way) s short (levelValues i) (way .limit) x i in
-          subst⁻¹ (λ (x : ℕ). Folded search soft (a + 30) (bitXor (at-loop .loop .fold) x)) (c .folded .ensures)
-          (one-more-folded search soft a _ _ (inv .1) (inv .3 s i h tables hard) (found .search-by .ensures .1 s i h tables hard)),
+          one-more-folded (searchedNumber (choiceOf way) s i (way .limit)) soft a _ _ (inv .1) (inv .3 s i h tables hard) (c .folded .ensures ∙ ap folded (found .search-by .ensures .1 s i h tables hard)),
     )
 
 returns : tie.Need-returns Inv-loop μ-loop
