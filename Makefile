@@ -9,7 +9,7 @@ define prove
 endef
 
 test: tools listed
-	$(call prove,store_columns store_searches store_batches store_rows store_pages store_dumps listing)
+	$(call prove,store_columns store_searches store_batches store_rows store_pages store_dumps store_chip listing)
 	@tests/run-vectors tests/vectors tests/libfec tests/known
 	@tests/run-batch
 	@tests/run-chip

@@ -28,7 +28,7 @@ use Rattle.trellis.proofs.Order.{key-order}
 use Rattle.stack.specs.Places.{Upto}
 use Rattle.extension.specs.Steps.{Given, Good, Held, tableExtension, tableNodes}
 use Rattle.extension.proofs.Growing.{ordered-grow}
-use Rattle.extension.proofs.NextBit.{let-in, dead-in, one-in, no-mask, bit-less}
+use Rattle.extension.proofs.NextBit.{let-in, dead-in, asked-in}
 use Rattle.extension.proofs.Advances.{flag, flag-other, good-none, held-extension, passes-free, passes}
 use Rattle.chip.specs.Places.{listed, placed, Leading, Out, Stepped}
 use Rattle.chip.proofs.Placed.{listed-length, in-listed, of-listed, placed-length, swap-placed, first-placed, placed-after}
@@ -238,17 +238,10 @@ module _ (n : ℕ) (soft left right : List ℕ) (table : List ℤ) (g : Given n 
         let fits = room (grow K p xs) (omega (arith, ap length grown, placed-length kt xs, listed-length f₀ k)) in
         stepped f k false r few (fits .0) (fits .1 ∙ grown ∙ out)
       where
-        ht : t < 2
-        ht = omega (arith, bit-less u v hv, et)
-
-        both : (let-in (eqb x₁ 0) (eqb y₁ 0) u v t ≡ true) × (let-in (eqb x₁ 0) (eqb y₁ 0) u v (1 - t) ≡ false)
-        both =
-            subst⁻¹ (λ (i : ℕ). (let-in (eqb x₁ 0) (eqb y₁ 0) u v i ≡ true) × (let-in (eqb x₁ 0) (eqb y₁ 0) u v (1 - i) ≡ false)) et
-            (one-in (eqb x₁ 0) (eqb y₁ 0) u v hu hv (no-mask x₁ b u eu) (no-mask y₁ b v ev) some apart)
-
         grown : grow K p xs ≡ placed kt xs
         grown =
-            grow-one G X F p part (flag t) (flag (1 - t)) xs (lets t ht ∙ both .0) (lets (1 - t) (omega arith) ∙ both .1) (flag-other t (1 - t) ht refl)
+            let one = asked-in x₁ y₁ b u v t eu ev hu hv some apart et in
+            grow-one G X F p part (flag t) (flag (1 - t)) xs (lets t (one .0) ∙ one .1) (lets (1 - t) (omega arith) ∙ one .2) (flag-other t (1 - t) (one .0) refl)
             ∙ ap (λ (z : Key). placed z xs) (sym ek)
 
   -- the extensions crowd exactly where 63 are there and both exist
@@ -271,9 +264,6 @@ module _ (n : ℕ) (soft left right : List ℕ) (table : List ℤ) (g : Given n 
       one-at-most : (eqb x₁ 0 && eqb y₁ 0) ≡ false → length (grow K p xs) ≤ k + 1
       one-at-most h = cases (not (eqb x₁ 0) && (not (eqb y₁ 0) && not (eqb (parity x₁ (b * 2)) (parity y₁ (b * 2))))) refl
         where
-          ht : cond (eqb (parity x₁ (b * 2)) 0) (parity y₁ (b * 2)) 1 < 2
-          ht = bit-less (parity x₁ (b * 2)) (parity y₁ (b * 2)) hv
-
           cases : (c : Bool) → (not (eqb x₁ 0) && (not (eqb y₁ 0) && not (eqb (parity x₁ (b * 2)) (parity y₁ (b * 2))))) ≡ c → length (grow K p xs) ≤ k + 1
           cases true e =
               let d = dead-in (eqb x₁ 0) (eqb y₁ 0) (parity x₁ (b * 2)) (parity y₁ (b * 2)) hu hv e in
@@ -283,11 +273,11 @@ module _ (n : ℕ) (soft left right : List ℕ) (table : List ℤ) (g : Given n 
                 listed-length f₀ k,
               )
           cases false e =
-              let o = one-in (eqb x₁ 0) (eqb y₁ 0) (parity x₁ (b * 2)) (parity y₁ (b * 2)) hu hv (no-mask x₁ b (parity x₁ (b * 2)) refl) (no-mask y₁ b (parity y₁ (b * 2)) refl) h e in
               let one = cond (eqb (parity x₁ (b * 2)) 0) (parity y₁ (b * 2)) 1 in
+              let o = asked-in x₁ y₁ b (parity x₁ (b * 2)) (parity y₁ (b * 2)) one refl refl hu hv h e refl in
               omega (
                 arith,
-                ap length (grow-one G X F p part (flag one) (flag (1 - one)) xs (lets (parity x₁ (b * 2)) (parity y₁ (b * 2)) refl refl hu hv one ht ∙ o .0) (lets (parity x₁ (b * 2)) (parity y₁ (b * 2)) refl refl hu hv (1 - one) (omega arith) ∙ o .1) (flag-other one (1 - one) ht refl)),
+                ap length (grow-one G X F p part (flag one) (flag (1 - one)) xs (lets (parity x₁ (b * 2)) (parity y₁ (b * 2)) refl refl hu hv one (o .0) ∙ o .1) (lets (parity x₁ (b * 2)) (parity y₁ (b * 2)) refl refl hu hv (1 - one) (omega arith) ∙ o .2) (flag-other one (1 - one) (o .0) refl)),
                 placed-length (G (flag one) p) xs,
                 listed-length f₀ k,
               )

@@ -8,8 +8,7 @@ use mathlib.Core.List.{List, [], _∷_}
 use mathlib.Core.Logic.{_⊎_, inl, inr}
 use mathlib.Core.Path.{_≡_, refl, sym, ap, ap₂, _∙_, subst, subst⁻¹}
 use lib.IntN.{ℤ, pos}
-use lib.ListN.{getD, set, take, length-set}
-use lib.Seq.{getD-set-same, getD-set-other}
+use lib.ListN.{getD, set, take}
 use Rattle.paths.specs.Stack.{insert}
 use Rattle.paths.proofs.Booleans.{not-both}
 use Rattle.heap.specs.Heap.{Put}
@@ -17,19 +16,8 @@ use Rattle.heap.specs.Holds.{AllAfter, Ordered}
 use Rattle.trellis.specs.Keys.{Key, key, keyBefore}
 use Rattle.stack.specs.Places.{at, Upto}
 use Rattle.stack.proofs.KeyOrder.{upto-trans}
+use Rattle.stack.proofs.KeyWays.{put-at}
 use Rattle.chip.specs.Places.{Places, listed, ordering, placed}
-
--- ---- arrays as a row of keys
-
-pub places-set : (s : List ℤ) (l b : List ℕ) (i : ℕ) (x : ℤ) (y z : ℕ) → Places s l b → Places (set s i x) (set l i y) (set b i z)
-places-set s l b i x y z r = record { sums = length-set s i x ∙ r .sums; lens = length-set l i y ∙ r .lens; bits = length-set b i z ∙ r .bits }
-
-pub put-at : (s : List ℤ) (l b : List ℕ) (i : ℕ) (x : ℤ) (y z : ℕ) → Places s l b → i < 64 → Put (at s l b) (at (set s i x) (set l i y) (set b i z)) i (key x y z)
-put-at s l b i x y z r h =
-    record {
-      here = λ t. record { sum = getD-set-same s i x (pos 0) (omega (arith, r .sums)) t; len = getD-set-same l i y 0 (omega (arith, r .lens)) t; bits = getD-set-same b i z 0 (omega (arith, r .bits)) t };
-      there = λ k ne. λ t. record { sum = getD-set-other s i k x (pos 0) ne t; len = getD-set-other l i k y 0 ne t; bits = getD-set-other b i k z 0 ne t };
-    }
 
 -- ---- lists of places
 

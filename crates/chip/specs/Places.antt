@@ -5,21 +5,19 @@ use mathlib.Core.Logic.{_⊎_}
 use mathlib.Core.Path.{_≡_}
 use Prim.Native.Nat.{ℕ, zero, suc, _+_, _-_, _*_, _/_, _%_, _≤_, _<_}
 use lib.IntN.{ℤ, pos}
-use lib.ListN.{length, getD, take}
+use lib.ListN.{getD, take}
 use lib.Signed.{ltZ}
 use Rattle.paths.specs.Stack.{Nodes, insert, grow}
 use Rattle.paths.specs.Bounded.{crowded}
 use Rattle.heap.specs.Heap.{Every}
 use Rattle.heap.specs.Holds.{Ordered}
 use Rattle.trellis.specs.Keys.{Key, key, keyBefore}
-use Rattle.stack.specs.Places.{Upto}
+use Rattle.stack.specs.Places.{RoomOf, Upto}
 use Rattle.extension.specs.Steps.{Good, Held}
 
 -- the three arrays have 64 places each
-pub record Places (s : List ℤ) (l b : List ℕ) : Type 0 where
-  pub sums : length s ≡ 64
-  pub lens : length l ≡ 64
-  pub bits : length b ≡ 64
+abbrev pub Places : List ℤ → List ℕ → List ℕ → Type 0
+Places = RoomOf 64
 
 -- the keys at the places below n, the highest place first
 unfoldable pub listed : {A : Type 0} → (ℕ → A) → ℕ → List A

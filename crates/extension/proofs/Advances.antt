@@ -30,7 +30,7 @@ use Rattle.stack.proofs.KeyOrder.{key-dec, upto-same, upto-anti, upto-trans}
 use Rattle.stack.proofs.Outs.{stay}
 use Rattle.trellis.proofs.Sums.{add-near}
 use Rattle.stack.proofs.Sums.{near-fits}
-use Rattle.extension.proofs.NextBit.{check, no-mask, let-in, dead-in, one-in, bit-less}
+use Rattle.extension.proofs.NextBit.{check, let-in, dead-in, asked-in}
 use Rattle.extension.proofs.Growing.{ordered-grow, weigh-full, weigh-none, weigh-one, weigh-both}
 
 -- ---- keys
@@ -214,17 +214,10 @@ module _ (n : ℕ) (soft left right : List ℕ) (table : List ℤ) (g : Given n 
           → kt ≡ E (flag t) p → Out f k r (λ h. weigh h f₀ k + h kt) → Advanced N n f₀ f k k p r
       advanced-one t kt r some apart et ek o =
           let hk = subst⁻¹ (Held n) ek (held-extension p (flag t) lt gp) in
+          let one = asked-in x y b u v t eu ev hu hv some apart et in
           advanced-out f₀ f k k p r (λ h. h kt) (omega arith)
-          (λ h xs. weigh-one E (keyPasses left right) (λ z. eqb (z .len) n) p part (flag t) (flag (1 - t)) (passes t ht ∙ both .0) (passes (1 - t) (omega arith) ∙ both .1) (flag-other t (1 - t) ht refl) h xs
+          (λ h xs. weigh-one E (keyPasses left right) (λ z. eqb (z .len) n) p part (flag t) (flag (1 - t)) (passes t (one .0) ∙ one .1) (passes (1 - t) (omega arith) ∙ one .2) (flag-other t (1 - t) (one .0) refl) h xs
           ∙ ap (λ (i : Key). weighList h xs + h i) (sym ek))
           o
           (stay (Held n) f₀ f k k kt (λ h. omega (arith, o .weight h)) hk held)
           (went (Held n) f₀ k kt r (λ h. omega (arith, o .weight h)) hk held)
-        where
-          ht : t < 2
-          ht = omega (arith, bit-less u v hv, et)
-
-          both : (let-in (eqb x 0) (eqb y 0) u v t ≡ true) × (let-in (eqb x 0) (eqb y 0) u v (1 - t) ≡ false)
-          both =
-              subst⁻¹ (λ (i : ℕ). (let-in (eqb x 0) (eqb y 0) u v i ≡ true) × (let-in (eqb x 0) (eqb y 0) u v (1 - i) ≡ false)) et
-              (one-in (eqb x 0) (eqb y 0) u v hu hv (no-mask x b u eu) (no-mask y b v ev) some apart)

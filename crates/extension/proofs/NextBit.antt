@@ -3,7 +3,7 @@ use Prim.Native.Nat.{ℕ, zero, suc, _+_, _-_, _*_, _%_, _/_, _<_, min}
 use native.Mathlib.Omega.{arith}
 use mathlib.Core.Bool.{Bool, true, false, cond, _&&_, not, true≢false, false≢true}
 use mathlib.Core.Logic.{inl, inr}
-use mathlib.Core.Path.{_≡_, refl, sym, ap, ap₂, _∙_}
+use mathlib.Core.Path.{_≡_, refl, sym, ap, ap₂, _∙_, subst⁻¹}
 use lib.Dec.{eqb}
 use lib.Bits.{bitAnd, and-step}
 use lib.Count.{ones, ones-step}
@@ -90,3 +90,10 @@ bit-less u v h = go (eqb u 0)
     go : (t : Bool) → cond t v 1 < 2
     go true = h
     go false = omega arith
+
+-- the bit t that the checks ask for is let in alone
+pub asked-in : (x y b u v t : ℕ) → u ≡ parity x (b * 2) → v ≡ parity y (b * 2) → u < 2 → v < 2 → (eqb x 0 && eqb y 0) ≡ false → (not (eqb x 0) && (not (eqb y 0) && not (eqb u v))) ≡ false → t ≡ cond (eqb u 0) v 1
+    → (t < 2) × (let-in (eqb x 0) (eqb y 0) u v t ≡ true) × (let-in (eqb x 0) (eqb y 0) u v (1 - t) ≡ false)
+asked-in x y b u v t eu ev hu hv some apart et =
+    subst⁻¹ (λ (i : ℕ). (i < 2) × (let-in (eqb x 0) (eqb y 0) u v i ≡ true) × (let-in (eqb x 0) (eqb y 0) u v (1 - i) ≡ false)) et
+    (let one = one-in (eqb x 0) (eqb y 0) u v hu hv (no-mask x b u eu) (no-mask y b v ev) some apart in (bit-less u v hv, one .0, one .1))

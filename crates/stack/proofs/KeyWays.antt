@@ -16,14 +16,14 @@ use Rattle.heap.specs.Heap.{weigh, Put, Every, Heap}
 use Rattle.heap.specs.Moves.{Rising, Sinking}
 use Rattle.heap.proofs.Ways.{rising-step, rising-end, rising-weight, sinking-step, sinking-end, sinking-weight}
 use Rattle.trellis.specs.Keys.{Key, key, keyBefore}
-use Rattle.stack.specs.Places.{at, Room, Upto, rankOf, Small, Fit, Lead}
+use Rattle.stack.specs.Places.{at, RoomOf, Room, Upto, rankOf, Small, Fit, Lead}
 use Rattle.stack.proofs.KeyOrder.{upto-not, upto-trans}
 use Rattle.stack.proofs.Ranks.{rank-before}
 
-pub room-set : (s : List ℤ) (l b : List ℕ) (i : ℕ) (x : ℤ) (y z : ℕ) → Room s l b → Room (set s i x) (set l i y) (set b i z)
+pub room-set : {n : ℕ} (s : List ℤ) (l b : List ℕ) (i : ℕ) (x : ℤ) (y z : ℕ) → RoomOf n s l b → RoomOf n (set s i x) (set l i y) (set b i z)
 room-set s l b i x y z r = record { sums = length-set s i x ∙ r .sums; lens = length-set l i y ∙ r .lens; bits = length-set b i z ∙ r .bits }
 
-pub put-at : (s : List ℤ) (l b : List ℕ) (i : ℕ) (x : ℤ) (y z : ℕ) → Room s l b → i < 2002 → Put (at s l b) (at (set s i x) (set l i y) (set b i z)) i (key x y z)
+pub put-at : {n : ℕ} (s : List ℤ) (l b : List ℕ) (i : ℕ) (x : ℤ) (y z : ℕ) → RoomOf n s l b → i < n → Put (at s l b) (at (set s i x) (set l i y) (set b i z)) i (key x y z)
 put-at s l b i x y z r h =
     record {
       here = λ t. record { sum = getD-set-same s i x (pos 0) (omega (arith, r .sums)) t; len = getD-set-same l i y 0 (omega (arith, r .lens)) t; bits = getD-set-same b i z 0 (omega (arith, r .bits)) t };

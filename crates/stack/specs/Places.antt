@@ -14,11 +14,15 @@ use Rattle.trellis.specs.Keys.{Key, keyBefore}
 abbrev pub at : List ℤ → List ℕ → List ℕ → ℕ → Key
 at s l b k = record { sum = getD s k (pos 0); len = getD l k 0; bits = getD b k 0 }
 
--- the three arrays have 2,002 places each
-pub record Room (s : List ℤ) (l b : List ℕ) : Type 0 where
-  pub sums : length s ≡ 2002
-  pub lens : length l ≡ 2002
-  pub bits : length b ≡ 2002
+-- the three arrays have n places each
+pub record RoomOf (n : ℕ) (s : List ℤ) (l b : List ℕ) : Type 0 where
+  pub sums : length s ≡ n
+  pub lens : length l ≡ n
+  pub bits : length b ≡ n
+
+-- 2,002 places
+abbrev pub Room : List ℤ → List ℕ → List ℕ → Type 0
+Room = RoomOf 2002
 
 -- the second does not stand before the first
 abbrev pub Upto : Key → Key → Type 0

@@ -13,7 +13,8 @@ use Rattle.heap.specs.Holds.{Ordered}
 use Rattle.trellis.specs.Keys.{Key, key, keyBefore}
 use Rattle.stack.specs.Places.{at, Upto}
 use Rattle.chip.specs.Places.{Places, listed, placed}
-use Rattle.chip.proofs.Insertion.{Lowered, places-set, lowered-start, lowered-step, lowered-end, placed-last}
+use Rattle.stack.proofs.KeyWays.{room-set}
+use Rattle.chip.proofs.Insertion.{Lowered, lowered-start, lowered-step, lowered-end, placed-last}
 use native.Mathlib.Omega.{arith}
 use borrow.Author.Needs.{needs}
 use Rattle.chip.proofs.displace.Statement.{statement}
@@ -105,7 +106,7 @@ loop-again : tie.Need-loop-again Inv-loop μ-loop
 loop-again c =
     let p = c .before .before .before .before .before .before in
     let f = toZ-ofZ {w = w16} (record { sfits = c .before .before .before .before .sp .given }) in
-    (places-set _ _ _ _ _ _ _ (p .loop .inv .0), p .loop .inv .1, lowered-step _ _ _ _ _ _ _ (p .loop .inv .0) (omega arith) (p .loop .inv .2) _ (omega (arith, c .before .before .before .before .before .loop-test .taken)) f (sym (c .before .stands-before2 .ensures) ∙ c .if2 .left))
+    (room-set _ _ _ _ _ _ _ (p .loop .inv .0), p .loop .inv .1, lowered-step _ _ _ _ _ _ _ (p .loop .inv .0) (omega arith) (p .loop .inv .2) _ (omega (arith, c .before .before .before .before .before .loop-test .taken)) f (sym (c .before .stands-before2 .ensures) ∙ c .if2 .left))
 
 mul-s : tie.Need-mul-s Inv-loop μ-loop
 mul-s c = search needs
@@ -126,7 +127,7 @@ returns-2 : tie.Need-returns-2 Inv-loop μ-loop
 returns-2 c =
     let a = c .before .before .before .before .before .before .before in
     let v = c .before .loop .inv in (
-      places-set _ _ _ _ _ _ _ (v .0),
+      room-set _ _ _ _ _ _ _ (v .0),
       lowered-end _ _ _ _ _ _ _ (v .0) (omega arith) (v .2) (v .1)
           (⊎-elim (λ w. inl (omega (arith, w .left))) (λ w. inr ((_, toZ-ofZ {w = w16} (record { sfits = w .1 .given }), sym (w .4 .ensures) ∙ w .5 .taken))) (c .loop-test .came))
           ∙ ap (λ (z : ℤ). take 63 (placed (key z (a .args .l) (a .args .b)) (listed (at (a .args .sums .now) (a .args .lens .now) (a .args .bits .now)) 63))) (toZ-ofZ (a .fits .s)),

@@ -9,7 +9,8 @@ use mir.Facts.{toZ-ofZ}
 use Rattle.trellis.specs.Keys.{key}
 use Rattle.stack.specs.Places.{at}
 use Rattle.chip.specs.Places.{Places, listed, placed}
-use Rattle.chip.proofs.Insertion.{Moved, places-set, moved-start, moved-step, moved-end}
+use Rattle.stack.proofs.KeyWays.{room-set}
+use Rattle.chip.proofs.Insertion.{Moved, moved-start, moved-step, moved-end}
 use native.Mathlib.Omega.{arith}
 use borrow.Author.Tests.{not-true, not-false}
 use borrow.Author.Needs.{needs}
@@ -68,7 +69,7 @@ loop-again : tie.Need-loop-again Inv-loop μ-loop
 loop-again c =
     let p = c .before .before .before .before .before .before in
     let f = toZ-ofZ {w = w16} (record { sfits = c .before .before .before .before .sp .given }) in
-    (p .loop .inv .0, places-set _ _ _ _ _ _ _ (p .loop .inv .1), moved-step _ _ _ _ _ _ _ (p .loop .inv .1) (p .loop .inv .0) (p .loop .inv .2) _ (c .before .before .before .before .before .loop-test .taken) f (sym (c .before .stands-before .ensures) ∙ not-false (c .before .stands-before .result) (c .if1 .left)))
+    (p .loop .inv .0, room-set _ _ _ _ _ _ _ (p .loop .inv .1), moved-step _ _ _ _ _ _ _ (p .loop .inv .1) (p .loop .inv .0) (p .loop .inv .2) _ (c .before .before .before .before .before .loop-test .taken) f (sym (c .before .stands-before .ensures) ∙ not-false (c .before .stands-before .result) (c .if1 .left)))
 
 mul-s : tie.Need-mul-s Inv-loop μ-loop
 mul-s c = search needs
@@ -89,7 +90,7 @@ returns : tie.Need-returns Inv-loop μ-loop
 returns c =
     let a = c .before .before in
     let v = c .before .loop .inv in (
-      places-set _ _ _ _ _ _ _ (v .1),
+      room-set _ _ _ _ _ _ _ (v .1),
       moved-end _ _ _ _ _ _ _ (v .1) (v .0) (v .2) (⊎-elim (λ w. inl (omega arith)) (λ w. inr ((_, toZ-ofZ {w = w16} (record { sfits = w .1 .given }), sym (w .4 .ensures) ∙ not-true (w .4 .result) (w .5 .taken)))) (c .loop-test .came))
           ∙ ap (λ (z : ℤ). placed (key z (a .args .l) (a .args .b)) (listed (at (a .args .sums .now) (a .args .lens .now) (a .args .bits .now)) (a .args .paths))) (toZ-ofZ (a .fits .s)),
     )
