@@ -1,4 +1,4 @@
-/* The test entries of crates/entries, as the archive made by `rt staticlib entries` has them. */
+/* The test entries of crates/entries and crates/chip_entries, as the archives made by `rt staticlib` have them. */
 #ifndef ENTRIES_H
 #define ENTRIES_H
 #include <stddef.h>

@@ -13,11 +13,6 @@ use Rattle.trellis.specs.Demand.{Search}
 use Rattle.trellis.specs.TwoWords.{Choice}
 use Rattle.page.specs.declared.PageOutcome.{PageOutcome}
 use Rattle.store_pages.specs.Pages.{PageFilled}
-use Rattle.chip_pages.specs.declared.ChipPage.{ChipPage}
-use Rattle.store_chip.specs.Chip.{ChipDecoded}
-use Rattle.store_chip.specs.declared.ChipAnswer.{ChipAnswer}
-use Rattle.entries.specs.declared.ChipFound.{ChipFound}
-use Rattle.entries.specs.declared.ChipReply.{ChipReply}
 use Rattle.entries.specs.declared.PageReply.{PageReply}
 use Rattle.entries.specs.declared.Reply.{Reply}
 use Rattle.entries.specs.declared.Told.{Told}
@@ -28,9 +23,6 @@ toldOf a = record { number = number a; place = place a; value = value a }
 
 abbrev pub foundOf : SearchAnswer → Found
 foundOf a = record { number = searches.number a; place = searches.place a; word = searches.word a; count = searches.count a; low = searches.low a }
-
-abbrev pub chipFoundOf : ChipAnswer → ChipFound
-chipFoundOf a = record { number = a .number; place = a .place; word = a .word; count = a .count; low = a .low; pushed = a .pushed }
 
 abbrev pub replyOf : Outcome → Reply
 replyOf o = record { number = outcomes.number o; place = outcomes.place o }
@@ -50,9 +42,3 @@ pub record PageReplied (B : Buffer) (choice : Choice) (s : Search) (soft : List 
   pub outcome : PageOutcome
   pub filled : PageFilled B choice s soft limit old outcome new
   pub told : r ≡ pageReplyOf outcome
-
--- the page call of the chip model told r, and left `new` in the place of `old`
-pub record ChipReplied (soft : List ℕ) (limit : ℕ) (old : List ℕ) (r : ChipReply) (new : List ℕ) : Type 0 where
-  pub outcome : ChipPage
-  pub decoded : ChipDecoded soft limit old outcome new
-  pub told : r ≡ record { page = pageReplyOf (outcome .page); pushed = outcome .pushed }

@@ -9,8 +9,7 @@ ghost use Rattle.dump.specs.Dump.{dumpOf, softOf};
 ghost use Rattle.reedsolomon.specs.ShortRows.{shortRoots};
 ghost use Rattle.store_rows.specs.Rows.{encodeRowAnswer, decodeRowAnswer};
 ghost use Rattle.store_dumps.specs.Dumps.{writeAnswer, readAnswer};
-ghost use Rattle.store_chip.specs.Chip.{chipAnswer};
-ghost use Rattle.entries.specs.Told.{toldOf, foundOf, chipFoundOf, replyOf, Replied, pageReplyOf, PageReplied, ChipReplied};
+ghost use Rattle.entries.specs.Told.{toldOf, foundOf, replyOf, Replied, pageReplyOf, PageReplied};
 ghost use Prim.Native.Nat.{_*_, _<_};
 ghost use lib.ListN.{length};
 ghost use Rattle.concatenated.specs.Format.{shortPage};
@@ -160,32 +159,6 @@ fn numbers_of_outcome(outcome: Outcome) -> Reply
     }
 }
 
-// What the chip's search answers, as C gets it.
-#[repr(C)]
-pub struct ChipFound {
-    pub number: u64,
-    pub place: u64,
-    pub word: u64,
-    pub count: u64,
-    pub low: i16,
-    pub pushed: bool,
-}
-
-#[no_mangle]
-pub extern "C" fn entry_search_chip(soft: &[u8], level: u64, limit: u64) -> ChipFound
-    ensures { λ r. ⌜ r ≡ chipFoundOf (chipAnswer (now (soft .entry)) level limit) ⌝ }
-{
-    let a = store_chip::search_chip(soft, level, limit);
-    ChipFound {
-        number: a.number,
-        place: a.place,
-        word: a.word,
-        count: a.count,
-        low: a.low,
-        pushed: a.pushed,
-    }
-}
-
 #[no_mangle]
 pub extern "C" fn entry_encode_row(level: u64, data: &[u8], out: &mut [u8]) -> Reply
     ensures { λ r. ⌜ Replied (encodeRowAnswer level (now («data» .entry)) (now (out .entry))) (encodedRow 6 67 63 (shortRoots level) (now («data» .entry))) (now (out .entry)) r (now (out .exit)) ⌝ }
@@ -239,7 +212,7 @@ pub struct PageReply {
     pub low: i16,
 }
 
-fn numbers_of_page(outcome: PageOutcome) -> PageReply
+pub fn numbers_of_page(outcome: PageOutcome) -> PageReply
     ensures { λ r. ⌜ r ≡ pageReplyOf outcome ⌝ }
 {
     let report = outcome.report;
@@ -271,25 +244,6 @@ pub extern "C" fn entry_decode_page_whole(soft: &[u8], limit: u64, data: &mut [u
     ensures { λ r. ⌜ PageReplied dataBuffer off whole (now (soft .entry)) limit (now («data» .entry)) r (now («data» .exit)) ⌝ }
 {
     numbers_of_page(store_pages::decode_page_whole(soft, limit, data))
-}
-
-// What page decoding by the chip's search tells: the page's numbers, and whether any search made pushed a path out.
-#[repr(C)]
-pub struct ChipReply {
-    pub page: PageReply,
-    pub pushed: bool,
-}
-
-#[no_mangle]
-pub extern "C" fn entry_decode_page_chip(soft: &[u8], limit: u64, data: &mut [u8]) -> ChipReply
-    ensures { λ r. ⌜ ChipReplied (now (soft .entry)) limit (now («data» .entry)) r (now («data» .exit)) ⌝ }
-{
-    let decoded = store_chip::decode_page_chip(soft, limit, data);
-    let page = decoded.page;
-    ChipReply {
-        page: numbers_of_page(page),
-        pushed: decoded.pushed,
-    }
 }
 
 #[no_mangle]

@@ -1,12 +1,12 @@
--- `entries::entry_search_chip` meets its contract: the call's answer, as numbers. Assumes nothing.
+-- `chip_entries::entry_search_chip` meets its contract: the call's answer, as numbers. Assumes nothing.
 use mathlib.Core.Path.{ap, _∙_}
 use lib.IntN.{ℤ}
 use mir.Syntax.{w16}
 use mir.Facts.{toZ-ofZ}
-use Rattle.entries.specs.Told.{chipFoundOf}
+use Rattle.chip_entries.specs.Told.{chipFoundOf}
 use borrow.Author.Needs.{needs}
-use Rattle.entries.proofs.entry_search_chip.Statement.{statement}
-use Rattle.entries.proofs.entry_search_chip.Tie as tie
+use Rattle.chip_entries.proofs.entry_search_chip.Statement.{statement}
+use Rattle.chip_entries.proofs.entry_search_chip.Tie as tie
 
 search-chip-requires : tie.Need-search-chip-requires
 search-chip-requires c κs = search needs

@@ -1,9 +1,9 @@
--- `entries::entry_decode_page_chip` meets its contract: the call's outcome, as numbers. Assumes nothing.
+-- `chip_entries::entry_decode_page_chip` meets its contract: the call's outcome, as numbers. Assumes nothing.
 use mathlib.Core.Path.{ap}
 use Rattle.entries.specs.declared.PageReply.{PageReply}
 use borrow.Author.Needs.{needs}
-use Rattle.entries.proofs.entry_decode_page_chip.Statement.{statement}
-use Rattle.entries.proofs.entry_decode_page_chip.Tie as tie
+use Rattle.chip_entries.proofs.entry_decode_page_chip.Statement.{statement}
+use Rattle.chip_entries.proofs.entry_decode_page_chip.Tie as tie
 
 decode-page-chip-requires : tie.Need-decode-page-chip-requires
 decode-page-chip-requires c κs = search needs
