@@ -213,13 +213,22 @@ module _ (t : Tree) {A : Type 0} (N : Nodes A) (key : Path → A) (keys : KeysOf
     search-on-keys-is-search-on-paths z₀ high accept limit =
         ap (run-keys N accept limit 0 z₀) (sym start-keys) ∙ run-keys-from z₀ high accept limit (start t .taken) (start t .stack) z₀ (start-invariant t sound) (low-at-start t z₀)
 
+    -- the stack after k steps
+    pub stack-on-keys-is-stack-on-paths : (k : ℕ) → map key (after t k .stack) ≡ stack-after N k (extend N (key []) [])
+    unfolding start after
+    stack-on-keys-is-stack-on-paths k = stack-after-from k (start t .taken) (start t .stack) (start-invariant t sound) ∙ ap (stack-after N k) start-keys
+
+    -- the lowest sum after k steps
+    pub low-on-keys-is-low-on-paths : (z₀ : ℤ) (k : ℕ) → LowSoFar t z₀ (after t k .taken) (low-after N k z₀ (extend N (key []) []))
+    unfolding start after
+    low-on-keys-is-low-on-paths z₀ k =
+        subst (λ (stack : List A). LowSoFar t z₀ (after t k .taken) (low-after N k z₀ stack)) start-keys
+        (low-after-from z₀ k (start t .taken) (start t .stack) z₀ (start-invariant t sound) (low-at-start t z₀))
+
     -- from the state after k steps
     pub going-on-with-keys-is-going-on-with-paths : (z₀ : ℤ) → ((w : Path) → Exists t w → t .sum w ≤ℤ z₀) → (accept : A → Bool) (fuel k : ℕ)
         → run-keys N accept fuel (count (after t k)) (low-after N k z₀ (extend N (key []) [])) (stack-after N k (extend N (key []) []))
         ≡ with-key (key-with-low t key) (run t (λ p. accept (key p)) fuel (after t k))
-    unfolding start after
     going-on-with-keys-is-going-on-with-paths z₀ high accept fuel k =
-        ap (run-keys N accept fuel (count (after t k)) (low-after N k z₀ (extend N (key []) []))) (sym (stack-after-from k (start t .taken) (start t .stack) (start-invariant t sound) ∙ ap (stack-after N k) start-keys))
-        ∙ run-keys-from z₀ high accept fuel (after t k .taken) (after t k .stack) (low-after N k z₀ (extend N (key []) [])) (after-invariant t sound k)
-        (subst (λ (stack : List A). LowSoFar t z₀ (after t k .taken) (low-after N k z₀ stack)) start-keys
-        (low-after-from z₀ k (start t .taken) (start t .stack) z₀ (start-invariant t sound) (low-at-start t z₀)))
+        ap (run-keys N accept fuel (count (after t k)) (low-after N k z₀ (extend N (key []) []))) (sym (stack-on-keys-is-stack-on-paths k))
+        ∙ run-keys-from z₀ high accept fuel (after t k .taken) (after t k .stack) (low-after N k z₀ (extend N (key []) [])) (after-invariant t sound k) (low-on-keys-is-low-on-paths z₀ k)

@@ -71,6 +71,10 @@ lowest-from-is z (x ∷ xs) = go (lowest-from-is (lower z x) xs) (lower-is z x)
         below y (inr (inl e)) = subst⁻¹ (λ (t : ℤ). lowest-from (lower z x) xs ≤ℤ t) e (≤ℤ-trans _ (lower z x) x (so .none-below (lower z x) (inl refl)) (low .2))
         below y (inr (inr h)) = so .none-below y (inr h)
 
+-- there is one
+pub one-lowest : (xs : List ℤ) (z y : ℤ) → Lowest xs z → Lowest xs y → z ≡ y
+one-lowest xs z y a b = ≤ℤ-antisym z y (a .none-below y (b .is-one)) (b .none-below z (a .is-one))
+
 -- of a list of some
 pub lowest-is : (xs : List ℤ) → 0 < length xs → Lowest xs (lowest xs)
 unfolding lowest

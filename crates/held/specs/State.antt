@@ -1,0 +1,63 @@
+-- 02, point 13: what the arrays of a held search hold. Assumes nothing.
+use mathlib.Core.Bool.{cond}
+use mathlib.Core.List.{List, [], _∷_, _++_, map}
+use mathlib.Core.Path.{_≡_}
+use Prim.Native.Nat.{ℕ, _-_, _/_, _<_, _≤_}
+use lib.Dec.{eqb}
+use lib.ListN.{length, getD}
+use Rattle.paths.specs.Low.{Lowest}
+use Rattle.paths.specs.Stack.{grow}
+use Rattle.paths.specs.Search.{after, spent}
+use Rattle.heap.specs.Holds.{Holds}
+use Rattle.trellis.specs.Values.{levelValues}
+use Rattle.trellis.specs.Keys.{Key, keyOf, keyNodes, noneTaken}
+use Rattle.trellis.specs.Trellis.{searched}
+use Rattle.stack.specs.Places.{Upto}
+use Rattle.extension.specs.Steps.{Held as HeldPath}
+use Rattle.search.specs.Progress.{Standing}
+use Rattle.search.specs.Outcomes.{SupercodesAt, codeOutcome}
+use Rattle.search.specs.declared.Progress.{Progress}
+use Rattle.search.specs.declared.SearchOutcome.{SearchOutcome}
+use Rattle.search.specs.declared.SearchOutcome.the-variants.{Found, Spent}
+use Rattle.held.specs.Entry.{heldTrellis, lastOf, pathsOf}
+use Rattle.held.specs.declared.Held.{Held}
+use Rattle.held.specs.declared.Gone.{Gone}
+
+-- An entry that the search can go on from: a level, a column of values 0..7, and a state that stands.
+pub record Ready (h : Held) : Type 0 where
+  pub level : h .level < 4
+  pub full : length (h .column) ≡ 30
+  pub range : (k : ℕ) → k < 30 → getD (h .column) k 0 ≤ 7
+  pub standing : Standing 30 (pathsOf h) (h .paths) (h .limit) (lastOf h)
+
+-- An entry holds the search of its column: as many steps as its limit says took no word, and it stands where the definition's search stands after them.
+-- How the heap is filled is left open. It holds a list `rest` in the order: with the extensions of the last path taken, by any tables of the supercodes' masks, this is the definition's stack.
+pub record Stopped (h : Held) : Type 0 where
+  pub ready : Ready h
+  pub partial : h .len < 30
+  pub spent : searched (heldTrellis h) (h .limit) ≡ spent (h .limit)
+  pub rest : List Key
+  pub holds : Holds Upto (pathsOf h) (h .paths) rest
+  pub stack : (left right : List ℕ) → SupercodesAt (h .level) left right
+      → grow (keyNodes 30 (levelValues (h .level)) (h .column) left right) (lastOf h) rest ≡ map (keyOf (levelValues (h .level)) (h .column)) (after (heldTrellis h) (h .limit) .stack)
+  -- the lowest sum of the paths taken, 32,767 where none is
+  pub low : Lowest (map (heldTrellis h .sum) (after (heldTrellis h) (h .limit) .taken) ++ (noneTaken ∷ [])) (h .low)
+
+-- ---- For the code's contracts
+
+-- the path at place j is one of 1..30 bits, and does not stand before the one above it
+pub record Placed (f : ℕ → Key) (j : ℕ) : Type 0 where
+  pub held : HeldPath 30 (f j)
+  pub order : 0 < j → Upto (f ((j - 1) / 4)) (f j)
+
+-- what a search that stopped in a state has found
+abbrev pub outcomeAt : Progress → SearchOutcome
+outcomeAt s = cond (eqb (s .len) 30) (Found (s .bits) (s .count) (s .low)) Spent
+
+-- From h the search went on up to a limit: the entry has the limit; and from where the definition's search stops, the outcome is that search's, and if it is spent, it stops there again.
+pub record WentOn (h : Held) (limit : ℕ) (r : Gone) : Type 0 where
+  pub column : r .held .column ≡ h .column
+  pub level : r .held .level ≡ h .level
+  pub summed : r .held .limit ≡ limit
+  pub found : Stopped h → r .found ≡ codeOutcome (searched (heldTrellis h) limit)
+  pub stopped : Stopped h → r .found ≡ Spent → Stopped (r .held)
