@@ -5,7 +5,7 @@ use mathlib.Core.Bool.{Bool, true, false, cond}
 use mathlib.Core.List.{List, [], map}
 use mathlib.Core.Logic.{_⊎_, inl, inr}
 use mathlib.Core.Path.{_≡_, refl, sym, ap, ap₂, _∙_, subst, subst⁻¹}
-use lib.Dec.{eqb, lit<}
+use lib.Dec.{eqb}
 use lib.IntN.{ℤ, pos}
 use lib.ListN.{length, getD}
 use lib.Seq.{ext-getD}
@@ -15,15 +15,13 @@ use mir.Val.{SFits, toZ, ofZ}
 use mir.Facts.{toZ-ofZ}
 use Rattle.column.specs.Shape.{Code, short}
 use Rattle.column.specs.Mask.{MasksOf}
-use Rattle.paths.specs.Paths.{Path}
 use Rattle.paths.specs.Tree.{Tree, Sound}
 use Rattle.paths.specs.Stack.{Nodes, extend, grow}
 use Rattle.paths.specs.Search.{SearchResult, answer, spent, start, steps, after, run, limited-search}
 use Rattle.paths.specs.Keys.{WithLow, KeysOf, run-keys, stack-after, low-after, with-key}
 use Rattle.paths.proofs.Low.{LowSoFar, low-at-start, one-lowest}
 use Rattle.paths.proofs.Keys.{stack-after-both, low-after-both, spent-keys-go-on, stack-on-keys-is-stack-on-paths, low-on-keys-is-low-on-paths}
-use Rattle.heap.specs.Holds.{Holds}
-use Rattle.trellis.specs.Values.{Values, levelValues}
+use Rattle.trellis.specs.Values.{levelValues}
 use Rattle.trellis.specs.Order.{sum, number}
 use Rattle.trellis.specs.Keys.{Key, key, keyOf, keyNodes, noneTaken, keySearch}
 use Rattle.trellis.specs.Trellis.{searched}
@@ -32,7 +30,6 @@ use Rattle.trellis.proofs.Demand.{trellis-sound}
 use Rattle.trellis.proofs.Demand as Demand
 use Rattle.trellis.proofs.Keys.{by-bits, keys-of-trellis, key-search-is-the-search}
 use Rattle.trellis.proofs.Short.{searchable, one-codeword-is-ahead-of-all}
-use Rattle.stack.specs.Places.{Upto}
 use Rattle.search.specs.Progress.{Standing, Going, Answered, Ended, Reached}
 use Rattle.search.specs.Outcomes.{SupercodesAt, TablesFor, outcomeOf, codeOutcome}
 use Rattle.search.specs.declared.Progress.{Progress}

@@ -1,27 +1,24 @@
 -- What the calls answer and leave in the store, case by case. Assumes nothing.
 use Prim.Native.Nat.{ℕ, _+_, _<_, _≤_}
 use native.Mathlib.Omega.{arith}
-use mathlib.Core.Bool.{Bool, true, false, cond}
+use mathlib.Core.Bool.{Bool, cond}
 use mathlib.Core.List.{List}
 use mathlib.Core.Path.{_≡_, refl, sym, ap, _∙_, subst, subst⁻¹}
 use lib.Dec.{eqb, ltb, leb}
 use lib.IntN.{ℤ}
 use lib.ListN.{length, set}
-use borrow.Author.Tests.{eqb-true, ne-eqb, lt-ltb, le-ltb, ltb-true, leb-true}
-use Rattle.paths.specs.Search.{SearchResult}
-use Rattle.trellis.specs.Trellis.{WordFound, searched}
+use borrow.Author.Tests.{ne-eqb, lt-ltb, le-ltb, ltb-true, leb-true}
+use Rattle.trellis.specs.Trellis.{searched}
 use Rattle.trellis.specs.Demand.{supercode}
 use Rattle.trellis.specs.TwoWords.{off}
 use Rattle.search.specs.Outcomes.{codeOutcome}
-use Rattle.search.specs.declared.SearchOutcome.{SearchOutcome}
-use Rattle.search.specs.declared.SearchOutcome.the-variants.{Found as CodeFound, Spent as CodeSpent}
+use Rattle.search.specs.declared.SearchOutcome.the-variants.{Spent as CodeSpent}
 use Rattle.questions.specs.Questions.{firstAbove}
 use Rattle.questions.specs.Outcome as questions
 use Rattle.questions.specs.declared.Outcome.{Outcome}
 use Rattle.questions.specs.declared.Outcome.the-variants.{Done, Refused as Asked}
 use Rattle.questions.proofs.EitherWay.{either, led, led-on, asked-done}
-use Rattle.searches.specs.Searches.{Answered, Allowed, askSearch, outcomeAnswer, asAnswer, searchAnswer}
-use Rattle.searches.specs.declared.SearchAnswer.{SearchAnswer}
+use Rattle.searches.specs.Searches.{Allowed, outcomeAnswer, asAnswer, searchAnswer}
 use Rattle.searches.specs.declared.SearchAnswer.the-variants.{Found, Refused}
 use Rattle.searches.proofs.Outcomes.{answered, answered-as}
 use Rattle.searches.proofs.Questions.{all-yes, ready, settled}
@@ -30,10 +27,9 @@ use Rattle.held.specs.State.{Ready, Stopped, WentOn}
 use Rattle.held.specs.declared.Held.{Held}
 use Rattle.held.specs.declared.Gone.{Gone}
 use Rattle.held.proofs.GoesOn.{begun-is-ready, begun-is-stopped}
-use Rattle.store_held.specs.Names.{Kept, free, kept, Names, under, askHold, holdAnswer, namesHeld, askMore, summedLimit, askTake, keptAnswer, takeAnswer, longer, namesTaken}
-use Rattle.store_held.specs.Calls.{entry, withEntry, keptOf, namesOf, Made, MadeStore, HoldCall, Left, TakeCall}
+use Rattle.store_held.specs.Names.{Kept, kept, under, askHold, holdAnswer, askMore, summedLimit, askTake, keptAnswer, takeAnswer, longer}
+use Rattle.store_held.specs.Calls.{entry, withEntry, keptOf, namesOf, Made, HoldCall, TakeCall}
 use Rattle.store_held.specs.declared.Store.{Store}
-use Rattle.store_held.specs.declared.HeldAnswer.{HeldAnswer}
 use Rattle.store_held.proofs.Entries.{names-with, under-is, summed-is, kept-is, nothing-is-free, made-with, nothing-is-made, stopped-is-made, made-is-stopped}
 
 -- a refusal by another number than 9

@@ -6,7 +6,7 @@ use mathlib.Core.List.{List, [], _∷_, map}
 use mathlib.Core.Logic.{_⊎_, inl, inr}
 use mathlib.Core.Path.{_≡_, refl, sym, ap, _∙_, subst⁻¹}
 use lib.Dec.{eqb}
-use lib.ListN.{length, getD, set, length-set, List·getD-map}
+use lib.ListN.{length, set, length-set, List·getD-map}
 use lib.Seq.{getD-set-same, getD-set-other}
 use borrow.Author.Tests.{eqb-true, eqb-false, ne-eqb}
 use Rattle.held.specs.Entry.{nothingHeld}
@@ -41,6 +41,15 @@ summed-is h = go (eqb (h .limit) 0) refl
 pub kept-is : (h : Held) → 1 ≤ h .limit → keptOf h ≡ kept (h .column) (h .level) (h .limit)
 unfolding keptOf
 kept-is h some = ap (λ (b : Bool). cond b free (kept (h .column) (h .level) (h .limit))) (ne-eqb (h .limit) 0 (omega arith))
+
+-- a search that is kept has taken a step
+pub kept-has-steps : (h : Held) (soft : List ℕ) (level summed : ℕ) → keptOf h ≡ kept soft level summed → 1 ≤ summed
+unfolding keptOf
+kept-has-steps h soft level summed e = go (eqb (h .limit) 0) refl e
+  where
+    go : (b : Bool) → eqb (h .limit) 0 ≡ b → cond b free (kept (h .column) (h .level) (h .limit)) ≡ kept soft level summed → 1 ≤ summed
+    go true zeroth q = let z : _≡_ {A = ℕ} 0 1 = cc q in absurd (omega arith)
+    go false some q = let same : h .limit ≡ summed = cc q in omega (arith, eqb-false (h .limit) 0 some)
 
 pub nothing-is-free : keptOf nothingHeld ≡ free
 unfolding keptOf nothingHeld

@@ -7,7 +7,6 @@ use Prim.Native.Nat.{ℕ, _<_, _≤_}
 use lib.Dec.{eqb}
 use lib.IntN.{pos}
 use lib.ListN.{length, replicate, getD, set}
-use Rattle.questions.specs.declared.Outcome.{Outcome}
 use Rattle.questions.specs.declared.Outcome.the-variants.{Done, Refused as Asked}
 use Rattle.searches.specs.Searches.{Answered}
 use Rattle.searches.specs.declared.SearchAnswer.{SearchAnswer}

@@ -1,5 +1,5 @@
 -- `held::go_on` meets its contract. Assumes nothing.
-use mathlib.Core.Path.{_≡_, refl, sym, _∙_}
+use mathlib.Core.Path.{refl, sym, _∙_}
 use mir.Syntax.{w16}
 use mir.Val.{SFits}
 use Rattle.trellis.specs.Values.{levelValues}

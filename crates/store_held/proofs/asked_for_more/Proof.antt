@@ -2,7 +2,6 @@
 use Prim.Native.Nat.{_+_, _≤_, _<_}
 use native.Mathlib.Omega.{arith}
 use borrow.Author.Tests.{le-leb, lt-leb}
-use borrow.Author.Needs.{needs}
 use Rattle.store_held.proofs.asked_for_more.Statement.{statement}
 use Rattle.store_held.proofs.asked_for_more.Tie as tie
 

@@ -1,14 +1,11 @@
 -- `store_held::hold_search` meets its contract: the questions' answer settles which case it is, then the search's outcome. Assumes nothing.
 use mathlib.Core.Path.{_≡_, sym, ap, _∙_}
 use Prim.Native.Nat.{_≤_, _<_}
-use native.Mathlib.Omega.{arith}
 use mir.Syntax.{w16}
 use mir.Facts.{toZ-ofZ}
 use Rattle.questions.specs.declared.Outcome.the-variants.{Done, Refused}
 use Rattle.searches.specs.Searches.{Allowed, asAnswer}
 use Rattle.searches.proofs.Outcomes.{found-answer, answered-as}
-use Rattle.held.specs.Entry.{begunHeld}
-use Rattle.held.specs.declared.Held.{Held}
 use Rattle.store_held.specs.Names.{askHold}
 use Rattle.store_held.proofs.Calls.{hold-ready, hold-refused, hold-found, hold-spent, BegunAndGone, begun-is-allowed, begun-is-below, begun-goes-on}
 use borrow.Author.Needs.{needs}

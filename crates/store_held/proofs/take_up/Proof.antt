@@ -8,7 +8,6 @@ use mir.Facts.{toZ-ofZ}
 use borrow.Author.Tests.{not-true, not-false}
 use Rattle.questions.specs.declared.Outcome.the-variants.{Done, Refused}
 use Rattle.searches.proofs.Outcomes.{found-answer}
-use Rattle.held.specs.State.{Ready}
 use Rattle.store_held.specs.Names.{askMore}
 use Rattle.store_held.specs.Calls.{entry}
 use Rattle.store_held.proofs.Calls.{more-ready, take-16, take-refused, take-unready, take-found, take-spent}
