@@ -3,6 +3,7 @@ use Prim.Native.Nat.{ℕ, _+_, _<_, _≤_}
 use native.Mathlib.Omega.{arith}
 use mathlib.Core.Bool.{Bool, cond}
 use mathlib.Core.List.{List}
+use mathlib.Core.Logic.{inl, inr}
 use mathlib.Core.Path.{_≡_, refl, sym, ap, _∙_, subst, subst⁻¹}
 use lib.Dec.{eqb, ltb, leb}
 use lib.IntN.{ℤ}
@@ -28,7 +29,7 @@ use Rattle.held.specs.declared.Held.{Held}
 use Rattle.held.specs.declared.Gone.{Gone}
 use Rattle.held.proofs.GoesOn.{begun-is-ready, begun-is-stopped}
 use Rattle.store_held.specs.Names.{Kept, kept, under, askHold, holdAnswer, askMore, summedLimit, askTake, keptAnswer, takeAnswer, longer}
-use Rattle.store_held.specs.Calls.{entry, withEntry, keptOf, namesOf, Made, HoldCall, TakeCall}
+use Rattle.store_held.specs.Calls.{entry, withEntry, keptOf, namesOf, Made, HoldCall, Ended, TakeCall}
 use Rattle.store_held.specs.declared.Store.{Store}
 use Rattle.store_held.proofs.Entries.{names-with, under-is, summed-is, kept-is, nothing-is-free, made-with, nothing-is-made, stopped-is-made, made-is-stopped}
 
@@ -170,17 +171,21 @@ module _ (summed limit : ℕ) where
 asked-is : {n p m q : ℕ} → Asked n p ≡ Asked m q → Refused n p ≡ Refused m q
 asked-is e = let number = ap questions.number e in let place = ap questions.place e in simp (number, place)
 
+asked-is-not-done : {n p : ℕ} → Asked n p ≡ Done → ⊥
+asked-is-not-done e = let z : _≡_ {A = ℕ} 0 1 = cc e in absurd (omega arith)
+
 module _ (s : Store) (name limit : ℕ) where
   -- any other number than 9: the store as it was
   refused-so : (n p : ℕ) → (n ≡ 9 → ⊥) → ((m q : ℕ) → askTake (namesOf s) name limit Asked Done ≡ Asked m q → Refused n p ≡ Refused m q)
-      → (Made (entry s name) → Refused n p ≡ takeAnswer (namesOf s) name limit) → TakeCall s name limit (record { answer = Refused n p; store = s })
-  refused-so n p other asks due =
-      record { asked = asks; names = sym (nine-is-not n _ _ other); left = (λ q. absurd (other q), λ q. refl); answer = λ m. answered (due m); made = λ m. m }
+      → (askTake (namesOf s) name limit Asked Done ≡ Done → Ended (Refused n p)) → (Made (entry s name) → Refused n p ≡ takeAnswer (namesOf s) name limit)
+      → TakeCall s name limit (record { answer = Refused n p; store = s })
+  refused-so n p other asks ended due =
+      record { asked = asks; ended = ended; names = sym (nine-is-not n _ _ other); left = (λ q. absurd (other q), λ q. refl); answer = λ m. answered (due m); made = λ m. m }
 
   pub take-16 : 4 ≤ name → TakeCall s name limit (record { answer = Refused 16 0; store = s })
   take-16 high =
-      let sixteen = le-ltb name 4 high in
-      refused-so 16 0 (λ e. omega arith) (λ m q e. asked-is (sym (rw sixteen refl) ∙ e)) (λ m. sym (rw sixteen refl))
+      let asks : askTake (namesOf s) name limit Asked Done ≡ Asked 16 0 = rw (le-ltb name 4 high) refl in
+      refused-so 16 0 (λ e. omega arith) (λ m q e. asked-is (sym asks ∙ e)) (λ e. absurd (asked-is-not-done (sym asks ∙ e))) (λ m. sym (rw (le-ltb name 4 high) refl))
 
   module _ (low : name < 4) where
     asks-more : {A : Type 0} (refusal : ℕ → ℕ → A) (next : A) → askTake (namesOf s) name limit refusal next ≡ askMore (entry s name .limit) limit refusal next
@@ -188,7 +193,7 @@ module _ (s : Store) (name limit : ℕ) where
 
     pub take-refused : (n p : ℕ) → Asked n p ≡ askMore (entry s name .limit) limit Asked Done → TakeCall s name limit (record { answer = Refused n p; store = s })
     take-refused n p e =
-        refused-so n p (subst⁻¹ NotNine e (more-not-nine (entry s name .limit) limit)) (λ m q f. asked-is (e ∙ sym (asks-more Asked Done) ∙ f))
+        refused-so n p (subst⁻¹ NotNine e (more-not-nine (entry s name .limit) limit)) (λ m q f. asked-is (e ∙ sym (asks-more Asked Done) ∙ f)) (λ f. absurd (asked-is-not-done (e ∙ sym (asks-more Asked Done) ∙ f)))
         (λ m. sym (asks-more Refused _ ∙ more-settled (entry s name .limit) limit Refused _ (Asked n p) e))
 
     module _ (done : Done ≡ askMore (entry s name .limit) limit Asked Done) where
@@ -196,10 +201,7 @@ module _ (s : Store) (name limit : ℕ) where
       h = entry s name
 
       none-asked : (m q : ℕ) → askTake (namesOf s) name limit Asked Done ≡ Asked m q → ⊥
-      none-asked m q e = let z : _≡_ {A = ℕ} 0 1 = never (done ∙ sym (asks-more Asked Done) ∙ e) in absurd (omega arith)
-        where
-          never : Done ≡ Asked m q → _≡_ {A = ℕ} 0 1
-          never e = cc e
+      none-asked m q e = asked-is-not-done (sym (done ∙ sym (asks-more Asked Done) ∙ e))
 
       stopped-of : Made h → Stopped h
       stopped-of m = made-is-stopped h m (more-ready (h .limit) limit done .0)
@@ -214,13 +216,14 @@ module _ (s : Store) (name limit : ℕ) where
           ∙ searched-answer (h .column) (h .level) (h .limit + limit) (record { full = st .ready .full; level = st .ready .level; some = omega (arith, bounds .0); most = bounds .2; range = st .ready .range })
 
       pub take-unready : (Ready h → ⊥) → TakeCall s name limit (record { answer = Refused 17 0; store = s })
-      take-unready none = refused-so 17 0 (λ e. omega arith) (λ m q e. absurd (none-asked m q e)) (λ m. absurd (none (stopped-of m .ready)))
+      take-unready none = refused-so 17 0 (λ e. omega arith) (λ m q e. absurd (none-asked m q e)) (λ e. (inr refl, refl)) (λ m. absurd (none (stopped-of m .ready)))
 
       module _ (r : Gone) (w : WentOn h (h .limit + limit) r) where
         pub take-found : (c d : ℕ) (z : ℤ) → Found c d z ≡ asAnswer (r .found) → (empty : Held) → empty ≡ nothingHeld → TakeCall s name limit (record { answer = Found c d z; store = withEntry s name empty })
         take-found c d z e empty none =
             record {
               asked = λ m q f. absurd (none-asked m q f);
+              ended = λ f. tt;
               names = names-with s name empty ∙ ap (set (namesOf s) name) (ap keptOf none ∙ nothing-is-free);
               left = ap (withEntry s name) none;
               answer = λ m. let st = stopped-of m in answered (e ∙ answered-as _ (w .found st) ∙ sym (take-due st));
@@ -236,6 +239,7 @@ module _ (s : Store) (name limit : ℕ) where
             let is : keptOf (r .held) ≡ longer (under (namesOf s) name) limit = kept-is (r .held) some ∙ same ∙ ap (λ (k : Kept). longer k limit) (sym is-kept) in
             record {
               asked = λ m q f. absurd (none-asked m q f);
+              ended = λ f. (inl refl, refl);
               names = names-with s name (r .held) ∙ ap (set (namesOf s) name) is;
               left = (λ q. (r .held, refl), λ q. absurd (q refl));
               answer = λ m. let st = stopped-of m in answered (ap asAnswer (sym e) ∙ answered-as _ (w .found st) ∙ sym (take-due st));

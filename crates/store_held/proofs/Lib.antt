@@ -1,3 +1,4 @@
 pub mod Entries
 pub mod Calls
 pub mod Stories
+pub mod Demand

@@ -76,11 +76,16 @@ abbrev pub Left : SearchAnswer → Store → ℕ → Store → Type 0
 Left (Found w c z) s name new = new ≡ withEntry s name nothingHeld
 Left (Refused n p) s name new = (n ≡ 9 → (h : Held) × (new ≡ withEntry s name h)) × ((n ≡ 9 → ⊥) → new ≡ s)
 
--- Taking up, on every store: the questions, what the names hold by the answer, and which bytes of the store may change.
--- On a store of other making that passes them, the answer is left open: a word, 9, or 17 for an entry that no search can go on from.
+-- what the answer is where all questions before 9 are answered yes, on any store: a word, 9, or 17 for an entry that no search can go on from
+abbrev pub Ended : SearchAnswer → Type 0
+Ended (Found w c z) = Unit {0}
+Ended (Refused n p) = ((n ≡ 9) ⊎ (n ≡ 17)) × (p ≡ 0)
+
+-- Taking up, on every store: the questions, what the names hold by the answer, and which bytes of the store may change. Which of the three answers `Ended` allows a store of other making gets is left open.
 -- Where the calls made the entry, the answer is that of one search with the summed limit.
 pub record TakeCall (s : Store) (name limit : ℕ) (r : HeldAnswer) : Type 0 where
   pub asked : (n p : ℕ) → askTake (namesOf s) name limit Asked Done ≡ Asked n p → r .answer ≡ Refused n p
+  pub ended : askTake (namesOf s) name limit Asked Done ≡ Done → Ended (r .answer)
   pub names : namesOf (r .store) ≡ namesTaken (r .answer) (namesOf s) name limit
   pub left : Left (r .answer) s name (r .store)
   pub answer : Made (entry s name) → Answered (takeAnswer (namesOf s) name limit) (r .answer)
