@@ -1,4 +1,4 @@
-/* The test entries of crates/entries and crates/chip_entries, as the archives made by `rt staticlib` have them. */
+/* The test entries of crates/entries, crates/chip_entries and crates/held_entries, as the archives made by `rt staticlib` have them. */
 #ifndef ENTRIES_H
 #define ENTRIES_H
 #include <stddef.h>
@@ -22,6 +22,14 @@ typedef struct { uint64_t number, place, word, count; int16_t low; uint8_t pushe
 /* What page decoding by the chip's search tells: as page decoding, and whether any search made pushed a path out, which a 10 tells too. */
 typedef struct { paged page; uint8_t pushed; } chip_paged;
 
+/* A held search: its summed limit, 0 where nothing is held, its level and its column; the number of paths on the stack; the last path taken, its bits, its sum and its length; the lowest sum of those
+   taken; the stack's three arrays. The store has four names. */
+typedef struct { uint64_t limit, level, paths, last; int16_t sum, low; uint8_t len, column[30], lens[2002]; int16_t sums[2002]; uint64_t bits[2002]; } held_search;
+typedef struct { held_search names[4]; } held_store;
+
+/* What a call on a store tells, and the store. */
+typedef struct { found found; held_store store; } held_found;
+
 /* A part of the caller's own bytes. */
 typedef struct { const uint8_t *bytes; size_t count; } part;
 
@@ -33,6 +41,9 @@ found entry_search_supercode(uint64_t level, const uint8_t *soft, size_t count, 
 found entry_search_whole_list(uint64_t level, const uint8_t *soft, size_t count, uint64_t limit, int64_t threshold);
 found entry_search_supercode_list(uint64_t level, const uint8_t *soft, size_t count, uint64_t limit, int64_t threshold);
 chip_found entry_search_chip(const uint8_t *soft, size_t count, uint64_t level, uint64_t limit);
+held_store entry_empty_store(void);
+held_found entry_hold_search(held_store store, uint64_t name, const uint8_t *soft, size_t count, uint64_t level, uint64_t limit);
+held_found entry_take_up(held_store store, uint64_t name, uint64_t limit);
 filled entry_encode_row(uint64_t level, const uint8_t *data, size_t count, uint8_t *out, size_t room);
 filled entry_decode_row(uint64_t level, const uint8_t *symbols, size_t count, const uint8_t *marks, size_t marked, uint8_t *out, size_t room);
 filled entry_encode_page(const uint8_t *data, size_t count, uint8_t *out, size_t room);

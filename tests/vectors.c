@@ -184,6 +184,55 @@ static verdict chip_line(const record *r) {
     return f.word == decimal(r->field[4]) && f.count == decimal(r->field[5]) && f.pushed == decimal(r->field[8]) ? SAME : DIFFERS;
 }
 
+/* held.txt: the store of the story so far. */
+static held_store story_store;
+
+/* What the names hold: `level:summed limit` or `-`. */
+static int holds_so(const held_store *s, char *const *fields) {
+    for (int k = 0; k < 4; k++) {
+        const held_search *h = &s->names[k];
+        char text[64] = "-";
+        if (h->limit) snprintf(text, sizeof text, "%llu:%llu", (unsigned long long)h->level, (unsigned long long)h->limit);
+        if (strcmp(text, fields[k])) return 0;
+    }
+    return 1;
+}
+
+/* `story K`, or a call with its answer, `word,count,low` or `-`, and the names after it; the low point is reckoned here as well, and a held column is that of its call. */
+static verdict held_line(const record *r) {
+    static held_found h;
+    uint8_t soft[LINE] = {0};
+    const int holding = !strcmp(r->field[0], "hold"), given = holding ? 5 : 3;
+    if (!strcmp(r->field[0], "story") && r->count == 2) {
+        story_store = entry_empty_store();
+        return PASSED;
+    }
+    if ((!holding && strcmp(r->field[0], "resume")) || r->count != given + 10 || strcmp(r->field[given], "->") || strcmp(r->field[given + 4], "|") || strcmp(r->field[given + 5], "held")) return DIFFERS;
+    const uint64_t name = decimal(r->field[1]), limit = decimal(r->field[given - 1]);
+    const held_search *const before = name < 4 ? &story_store.names[name] : NULL;
+    uint64_t level = before ? before->level : 0;
+    if (holding) {
+        const size_t n = bytes_of(r->field[2], soft, sizeof soft);
+        level = decimal(r->field[3]);
+        h = entry_hold_search(story_store, name, soft, n, level, limit);
+    } else {
+        if (before) memcpy(soft, before->column, BITS);
+        h = entry_take_up(story_store, name, limit);
+    }
+    const found f = h.found;
+    found told = {.number = decimal(r->field[given + 1]), .place = decimal(r->field[given + 2])};
+    char *answer = r->field[given + 3];
+    if (strcmp(answer, "-")) {
+        told.word = strtoull(answer, &answer, 10);
+        told.count = *answer == ',' ? strtoull(answer + 1, &answer, 10) : 0;
+        told.low = (int16_t)(*answer == ',' ? strtol(answer + 1, &answer, 10) : 0);
+        if (*answer || told.number || told.low != walk_of(soft, level, told.word).low) return DIFFERS;
+    } else if (!told.number) return DIFFERS;
+    const int column_kept = f.number != 9 || name > 3 || !memcmp(h.store.names[name].column, soft, BITS);
+    story_store = h.store;
+    return same_found(f, told) && holds_so(&story_store, r->field + given + 6) && column_kept ? SAME : DIFFERS;
+}
+
 /* What a row call wrote is the word of the line, or nothing. */
 static verdict wrote(filled f, const uint8_t *out, const char *expected) {
     uint8_t word[ROW];
@@ -540,7 +589,7 @@ static void check_dump(const char *folder, const char *name) {
 }
 
 static const struct { const char *name; verdict (*line_of)(const record *); } texts[] = {
-    {"code.txt", code_line}, {"columns.txt", column_line}, {"search.txt", low_line}, {"lows.txt", low_line}, {"list2.txt", list_line}, {"chip.txt", chip_line}, {"outer.txt", outer_line}, {"pages.txt", page_line}, {"reports.txt", report_line}, {"chip-pages.txt", chip_page_line}, {"commit.txt", commit_line}, {"refusals.txt", refusal_line},
+    {"code.txt", code_line}, {"columns.txt", column_line}, {"search.txt", low_line}, {"lows.txt", low_line}, {"list2.txt", list_line}, {"chip.txt", chip_line}, {"held.txt", held_line}, {"outer.txt", outer_line}, {"pages.txt", page_line}, {"reports.txt", report_line}, {"chip-pages.txt", chip_page_line}, {"commit.txt", commit_line}, {"refusals.txt", refusal_line},
 };
 enum { TEXTS = sizeof texts / sizeof texts[0] };
 

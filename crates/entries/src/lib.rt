@@ -79,7 +79,7 @@ pub struct Found {
     pub low: i16,
 }
 
-fn numbers_of_search(answer: SearchAnswer) -> Found
+pub fn numbers_of_search(answer: SearchAnswer) -> Found
     ensures { λ r. ⌜ r ≡ foundOf answer ⌝ }
 {
     match answer {
