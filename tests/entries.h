@@ -24,7 +24,7 @@ typedef struct { paged page; uint8_t pushed; } chip_paged;
 
 /* A held search: its summed limit, 0 where nothing is held, its level and its column; the number of paths on the stack; the last path taken, its bits, its sum and its length; the lowest sum of those
    taken; the stack's three arrays. The store has four names. */
-typedef struct { uint64_t limit, level, paths, last; int16_t sum, low; uint8_t len, column[30], lens[2002]; int16_t sums[2002]; uint64_t bits[2002]; } held_search;
+typedef struct { uint64_t limit, level, paths, last; int16_t sum, low; uint8_t len, column[30], lens[2002]; int16_t sums[2002]; uint32_t bits[2002]; } held_search;
 typedef struct { held_search names[4]; } held_store;
 
 /* What a call on a store tells, and the store. */

@@ -8,8 +8,8 @@
 enum { NAMES = 4, PLACES = 2002, LENGTH = 1, LEVEL = 3, LIMIT = 4, VALUE = 5, NAME = 16, NOTHING = 17, SUM = 18, NUMBERS };
 
 _Static_assert(sizeof(found) == 40 && offsetof(held_search, sum) == 32 && offsetof(held_search, len) == 36 && offsetof(held_search, column) == 37 && offsetof(held_search, lens) == 67, "a held search's first fields");
-_Static_assert(offsetof(held_search, sums) == 2070 && offsetof(held_search, bits) == 6080 && sizeof(held_search) == 22096, "a held search's arrays");
-_Static_assert(sizeof(held_store) == 4 * 22096 && offsetof(held_found, store) == 40 && sizeof(held_found) == 40 + 4 * 22096, "a store and what a call tells");
+_Static_assert(offsetof(held_search, sums) == 2070 && offsetof(held_search, bits) == 6076 && sizeof(held_search) == 14088, "a held search's arrays");
+_Static_assert(sizeof(held_store) == 4 * 14088 && offsetof(held_found, store) == 40 && sizeof(held_found) == 40 + 4 * 14088, "a store and what a call tells");
 
 /* --- what is expected --- */
 
@@ -65,7 +65,7 @@ static found due_to_take(uint64_t name, uint64_t limit) {
     return number ? refusal(number, 0) : one_search(k->column, k->level, k->limit + limit);
 }
 
-static path path_at(const held_search *h, uint64_t j) { return (path){h->sums[j], h->lens[j], (uint32_t)h->bits[j]}; }
+static path path_at(const held_search *h, uint64_t j) { return (path){h->sums[j], h->lens[j], h->bits[j]}; }
 
 static int in_order(const void *a, const void *b) { return goes_before(*(const path *)b, *(const path *)a) - goes_before(*(const path *)a, *(const path *)b); }
 
@@ -435,7 +435,7 @@ static void random_bytes(void) {
             if (care > 3) h->sum = (int16_t)(h->sum % (60 * h->len + 1));
             for (int j = 0; j < PLACES && care > 4; j++) {
                 h->lens[j] = (uint8_t)(1 + below(BITS));
-                h->bits[j] &= ((uint64_t)1 << h->lens[j]) - 1;
+                h->bits[j] &= ((uint32_t)1 << h->lens[j]) - 1;
                 h->sums[j] = (int16_t)(h->sums[j] % (60 * h->lens[j] + 1));
             }
         }
@@ -481,7 +481,8 @@ static void random_paths(void) {
 enum { FALLS, STANDS, SAME, ASKED, ALTERED = 34 };
 
 static int alter(held_search *h, int how) {
-    const uint64_t j = below((unsigned)h->paths), above = (uint64_t)1 << h->lens[j];
+    const uint64_t j = below((unsigned)h->paths);
+    const uint32_t above = (uint32_t)1 << h->lens[j];
     const int16_t most = (int16_t)(60 * h->len), most_there = (int16_t)(60 * h->lens[j]);
     switch (how) {
     case 0: h->paths = 2003; return FALLS;
@@ -505,7 +506,7 @@ static int alter(held_search *h, int how) {
     case 18: h->lens[j] = BITS + 1; return FALLS;
     case 19: h->lens[j] = 255; return FALLS;
     case 20: h->bits[j] |= above; return FALLS;
-    case 21: h->bits[j] |= (uint64_t)1 << 63; return FALLS;
+    case 21: h->bits[j] |= (uint32_t)1 << 31; return FALLS;
     case 22: h->sums[j] = (int16_t)(most_there + 1); return FALLS;
     case 23: h->sums[j] = INT16_MIN; return FALLS;
     case 24: /* the first path at the last place */
@@ -525,7 +526,7 @@ static int alter(held_search *h, int how) {
         for (uint64_t k = h->paths; k < PLACES; k++) {
             h->lens[k] = drawn();
             h->sums[k] = (int16_t)(drawn() << 8 | drawn());
-            h->bits[k] = (uint64_t)drawn() << 56 | drawn();
+            h->bits[k] = (uint32_t)drawn() << 24 | drawn();
         }
         return SAME;
     }

@@ -6,7 +6,8 @@ use mathlib.Core.Path.{_≡_, refl, ap, ap₂, _∙_}
 use Rattle.heap.specs.Heap.{weigh, Put}
 
 module _ {A : Type 0} where
-  weigh-same : (h : A → ℕ) (f g : ℕ → A) (n : ℕ) → ((k : ℕ) → k < n → g k ≡ f k) → weigh h g n ≡ weigh h f n
+  -- by the places below n alone
+  pub weigh-same : (h : A → ℕ) (f g : ℕ → A) (n : ℕ) → ((k : ℕ) → k < n → g k ≡ f k) → weigh h g n ≡ weigh h f n
   unfolding weigh
   weigh-same h f g zero e = refl
   weigh-same h f g (suc n) e = ap₂ _+_ (ap h (e n (omega arith))) (weigh-same h f g n (λ k l. e k (omega arith)))

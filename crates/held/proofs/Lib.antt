@@ -1,2 +1,3 @@
 pub mod Testing
+pub mod Widths
 pub mod GoesOn

@@ -97,13 +97,13 @@ module _ (l : ℕ) (short : l ≤ 30) where
           λ g. same ∙ near .1 (omega (arith, g .near)),
         )
 
--- ---- sums as a call hands them on: read back from their bits
+-- ---- sums as a call hands them on, read back from their bits; and bits that were widened
 
-pub good-handed : (z : ℤ) (l b : ℕ) (t : Bool) → SFits w16 z → (t ≡ true) ↔ Good 30 (key (toZ w16 (ofZ w16 z)) l b) → (t ≡ true) ↔ Good 30 (key z l b)
-good-handed z l b t h = subst (λ (y : ℤ). (t ≡ true) ↔ Good 30 (key y l b)) (toZ-ofZ h)
+pub good-handed : (z : ℤ) (l b d : ℕ) (t : Bool) → SFits w16 z → d ≡ b → (t ≡ true) ↔ Good 30 (key (toZ w16 (ofZ w16 z)) l d) → (t ≡ true) ↔ Good 30 (key z l b)
+good-handed z l b d t h same so = subst (λ (y : ℤ). (t ≡ true) ↔ Good 30 (key y l b)) (toZ-ofZ h) (subst (λ (x : ℕ). (t ≡ true) ↔ Good 30 (key (toZ w16 (ofZ w16 z)) l x)) same so)
 
-pub before-handed : (z y : ℤ) (l b m d : ℕ) (t : Bool) → SFits w16 z → SFits w16 y → t ≡ keyBefore (key (toZ w16 (ofZ w16 z)) l b) (key (toZ w16 (ofZ w16 y)) m d) → t ≡ keyBefore (key z l b) (key y m d)
-before-handed z y l b m d t hz hy e = e ∙ ap₂ (λ (x w : ℤ). keyBefore (key x l b) (key w m d)) (toZ-ofZ hz) (toZ-ofZ hy)
+pub before-handed : (z y : ℤ) (l b d m e f : ℕ) (t : Bool) → SFits w16 z → SFits w16 y → d ≡ b → f ≡ e → t ≡ keyBefore (key (toZ w16 (ofZ w16 z)) l d) (key (toZ w16 (ofZ w16 y)) m f) → t ≡ keyBefore (key z l b) (key y m e)
+before-handed z y l b d m e f t hz hy same same′ so = so ∙ ap₂ (λ (x w : ℤ). keyBefore (key x l d) (key w m f)) (toZ-ofZ hz) (toZ-ofZ hy) ∙ ap₂ (λ (i j : ℕ). keyBefore (key z l i) (key y m j)) same same′
 
 -- ---- a path at its place
 

@@ -50,6 +50,10 @@ pub record Placed (f : ℕ → Key) (j : ℕ) : Type 0 where
   pub held : HeldPath 30 (f j)
   pub order : 0 < j → Upto (f ((j - 1) / 4)) (f j)
 
+-- numbers of 32 bits in the place of numbers, the same wherever they fit
+pub record Narrowed (wide narrow : List ℕ) : Type 0 where
+  pub same : (k : ℕ) → getD wide k 0 < 4294967296 → getD narrow k 0 ≡ getD wide k 0
+
 -- what a search that stopped in a state has found
 abbrev pub outcomeAt : Progress → SearchOutcome
 outcomeAt s = cond (eqb (s .len) 30) (Found (s .bits) (s .count) (s .low)) Spent

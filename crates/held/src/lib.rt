@@ -9,11 +9,11 @@ ghost use Prim.Native.Nat.{_≤_};
 ghost use mathlib.Core.Path.{_≡_};
 ghost use lib.ListN.{length};
 ghost use Rattle.held.specs.Entry.{nothingHeld, begunHeld};
-ghost use Rattle.held.specs.State.{outcomeAt, Ready, WentOn};
+ghost use Rattle.held.specs.State.{outcomeAt, Narrowed, Ready, WentOn};
 use search::Progress;
 use search::SearchOutcome;
 
-// A held search: its summed limit, its level and its column; the number of paths on the stack; the last path taken, its bits, its sum and its length; the lowest sum of those taken; the stack's three arrays.
+// A held search: its summed limit, its level and its column; the number of paths on the stack; the last path taken, its bits, its sum and its length; the lowest sum of those taken; the stack's three arrays, the bits in 32 where the search has 64.
 // It has taken as many paths as its limit says. A limit of 0: nothing is held.
 #[repr(C)]
 pub struct Held {
@@ -27,7 +27,7 @@ pub struct Held {
     pub column: [u8; 30],
     pub lens: [u8; 2002],
     pub sums: [i16; 2002],
-    pub bits: [u64; 2002],
+    pub bits: [u32; 2002],
 }
 
 // Nothing is held.
@@ -45,7 +45,7 @@ pub fn nothing() -> Held
         column: [0u8; 30],
         lens: [0u8; 2002],
         sums: [0i16; 2002],
-        bits: [0u64; 2002],
+        bits: [0u32; 2002],
     }
 }
 
@@ -61,6 +61,32 @@ pub fn begin(soft: &[u8], level: u64) -> Held
     held.low = search::NONE_TAKEN;
     held.column = column;
     held
+}
+
+// The bits of the paths as the search has them.
+fn widened(bits: [u32; 2002]) -> [u64; 2002]
+    ensures { λ r. ⌜ r ≡ bits ⌝ }
+{
+    let mut wide = [0u64; 2002];
+    let mut k: usize = 0;
+    while k < 2002 {
+        wide[k] = bits[k] as u64;
+        k += 1;
+    }
+    wide
+}
+
+// The bits of the paths as they are held: a path has at most 30.
+fn narrowed(bits: [u64; 2002]) -> [u32; 2002]
+    ensures { λ r. ⌜ Narrowed bits r ⌝ }
+{
+    let mut narrow = [0u32; 2002];
+    let mut k: usize = 0;
+    while k < 2002 {
+        narrow[k] = (bits[k] % 4294967296) as u32;
+        k += 1;
+    }
+    narrow
 }
 
 // What a search that stopped in a state has found.
@@ -96,7 +122,8 @@ pub fn go_on(held: Held, limit: u64) -> Gone
     let column = held.column;
     let mut sums = held.sums;
     let mut lens = held.lens;
-    let mut bits = held.bits;
+    let narrow = held.bits;
+    let mut bits = widened(narrow);
     let state = Progress {
         paths: held.paths,
         count: held.limit,
@@ -117,6 +144,7 @@ pub fn go_on(held: Held, limit: u64) -> Gone
         state,
         limit,
     );
+    let left_over = narrowed(bits);
     Gone {
         found: outcome_at(end),
         held: Held {
@@ -130,7 +158,7 @@ pub fn go_on(held: Held, limit: u64) -> Gone
             column: column,
             lens: lens,
             sums: sums,
-            bits: bits,
+            bits: left_over,
         },
     }
 }

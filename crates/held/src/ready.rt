@@ -26,14 +26,21 @@ fn is_good(s: i16, l: u8, b: u64) -> bool
     s <= most
 }
 
+// The bits of a path as the search has them.
+fn wide(b: u32) -> u64
+    ensures { λ r. ⌜ r ≡ b ⌝ }
+{
+    b as u64
+}
+
 // Whether the path at a place has 1..30 bits and does not stand before the one above it.
-fn is_placed(sums: &[i16; 2002], lens: &[u8; 2002], bits: &[u64; 2002], j: usize) -> bool
+fn is_placed(sums: &[i16; 2002], lens: &[u8; 2002], bits: &[u32; 2002], j: usize) -> bool
     requires { ⌜ j < 2002 ⌝ }
     ensures { λ r. ⌜ (r ≡ true) ↔ Placed (at (now (sums .entry)) (now (lens .entry)) (now (bits .entry))) j ⌝ }
 {
     let s = sums[j];
     let l = lens[j];
-    let b = bits[j];
+    let b = wide(bits[j]);
     if l == 0 {
         return false;
     }
@@ -44,11 +51,11 @@ fn is_placed(sums: &[i16; 2002], lens: &[u8; 2002], bits: &[u64; 2002], j: usize
         return true;
     }
     let p = (j - 1) / 4;
-    !stack::stands_before(s, l, b, sums[p], lens[p], bits[p])
+    !stack::stands_before(s, l, b, sums[p], lens[p], wide(bits[p]))
 }
 
 // Whether all paths are so.
-fn all_placed(sums: &[i16; 2002], lens: &[u8; 2002], bits: &[u64; 2002], paths: usize) -> bool
+fn all_placed(sums: &[i16; 2002], lens: &[u8; 2002], bits: &[u32; 2002], paths: usize) -> bool
     requires { ⌜ paths ≤ 2002 ⌝ }
     ensures { λ r. ⌜ (r ≡ true) ↔ ((j : ℕ) → j < paths → Placed (at (now (sums .entry)) (now (lens .entry)) (now (bits .entry))) j) ⌝ }
 {

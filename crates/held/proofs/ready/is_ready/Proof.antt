@@ -1,5 +1,5 @@
 -- `held::ready::is_ready` meets its contract. Assumes nothing.
-use mathlib.Core.Path.{_≡_}
+use mathlib.Core.Path.{_≡_, refl}
 use Prim.Native.Nat.{_≤_}
 use lib.ListN.{length}
 use borrow.Author.Tests.{not-false}
@@ -42,7 +42,7 @@ is-good-requires c κs = search needs
 returns-4 : tie.Need-returns-4
 returns-4 c =
     let a = c .before .before .before .before .before .before .before .before .before .before .before in
-    refuted (λ r. fails (good-handed _ _ _ _ (fits-of a) (c .before .is-good .ensures)) (c .if4 .taken) (r .standing .good))
+    refuted (λ r. fails (good-handed _ _ _ _ _ (fits-of a) refl (c .before .is-good .ensures)) (c .if4 .taken) (r .standing .good))
 
 all-placed-requires : tie.Need-all-placed-requires
 all-placed-requires c κs = search needs
@@ -53,7 +53,7 @@ returns-5 c =
     let first = tested .before .before .before .before .before in
     let a = first .before .before .before .before .before .before in
     let range : 30 ≤ firstAbove (a .args .held .column) 7 = omega (arith, first .before .first-above .ensures, first .if2 .left) in
-    let good = good-handed _ _ _ _ (fits-of a) (tested .before .is-good .ensures) .0 (not-false _ (tested .if4 .left)) in
+    let good = good-handed _ _ _ _ _ (fits-of a) refl (tested .before .is-good .ensures) .0 (not-false _ (tested .if4 .left)) in
     ready-exactly (a .args .held) (full-of a) (c .all-placed .result) (first .before .before .before .before .if1 .left) range (tested .before .before .before .if3 .left) good (c .all-placed .ensures)
 
 pub is-ready-spec : {M : Type 1} → statement M
