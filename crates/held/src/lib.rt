@@ -144,7 +144,7 @@ pub fn go_on(held: Held, limit: u64) -> Gone
         state,
         limit,
     );
-    let left_over = narrowed(bits);
+    let kept_bits = narrowed(bits);
     Gone {
         found: outcome_at(end),
         held: Held {
@@ -158,7 +158,7 @@ pub fn go_on(held: Held, limit: u64) -> Gone
             column: column,
             lens: lens,
             sums: sums,
-            bits: left_over,
+            bits: kept_bits,
         },
     }
 }
