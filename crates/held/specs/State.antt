@@ -31,7 +31,7 @@ pub record Ready (h : Held) : Type 0 where
   pub standing : Standing 30 (pathsOf h) (h .paths) (h .limit) (lastOf h)
 
 -- An entry holds the search of its column: as many steps as its limit says took no word, and it stands where the definition's search stands after them.
--- How the heap is filled is left open. It holds a list `rest` in the order: with the extensions of the last path taken, by any tables of the supercodes' masks, this is the definition's stack.
+-- How the heap is filled is left open. It holds a list `rest` in the order: with the extensions of the path that the entry names as its last, by any tables of the supercodes' masks, this is the definition's stack.
 pub record Stopped (h : Held) : Type 0 where
   pub ready : Ready h
   pub partial : h .len < 30

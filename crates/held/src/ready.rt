@@ -9,7 +9,7 @@ ghost use Rattle.extension.specs.Steps.{Good};
 ghost use Rattle.held.specs.State.{Placed, Ready};
 use crate::Held;
 
-// Whether a key is one of a path of at most 30 bits: none above the length, and the sum within 60 of zero for each.
+// Whether a key is one of a path of at most 30 bits: none above the length, and the sum at most 60 a bit from zero.
 fn is_good(s: i16, l: u8, b: u64) -> bool
     ensures { λ r. ⌜ (r ≡ true) ↔ Good 30 (key s l b) ⌝ }
 {

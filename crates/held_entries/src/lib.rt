@@ -1,4 +1,4 @@
-// Test entries of the held searches for C, thin over their calls: what tests/run-vectors and tests/run-held call beside crates/entries. An archive of their own, since the store's has no held searches.
+// Test entries of the held searches for C, thin over their calls: what tests/run-vectors and tests/run-held call beside crates/entries. An archive of their own, since that of crates/entries has none.
 ghost use mathlib.Core.Path.{_≡_};
 ghost use Rattle.store_held.specs.Calls.{emptyStore};
 ghost use Rattle.held_entries.specs.Told.{HoldReplied, TakeReplied};

@@ -3,7 +3,7 @@ use mathlib.Core.Bool.{Bool, true, false, cond, _&&_}
 use mathlib.Core.List.{List, [], _∷_, map}
 use mathlib.Core.Logic.{_⊎_, inl, inr}
 use mathlib.Core.Path.{_≡_, refl, sym, ap, _∙_, subst, subst⁻¹}
-use Prim.Native.Nat.{ℕ, zero, suc, _+_, _≤_, _<_}
+use Prim.Native.Nat.{ℕ, zero, suc, _+_, _<_}
 use native.Mathlib.Omega.{arith}
 use native.Mathlib.Nat.{zero-add, suc-add}
 use lib.Dec.{eqb}
@@ -19,7 +19,6 @@ use Rattle.paths.specs.Low.{lower}
 use Rattle.paths.specs.Keys.{WithLow, run-keys, stack-after, low-after, KeysOf, key-with-low, with-key}
 use Rattle.paths.proofs.Booleans.{is-false}
 use Rattle.paths.proofs.Lists.{of-map}
-use Rattle.paths.proofs.Stack.{grow-length}
 use Rattle.paths.proofs.Invariant.{Invariant, step-invariant, start-invariant, after-invariant}
 use Rattle.paths.proofs.Low.{LowSoFar, low-at-start, low-of-one-more, led-by-the-search, lowest-so-far-is-the-low-point}
 use Rattle.paths.proofs.Run.{answer-is-not-spent}
@@ -27,12 +26,6 @@ use Rattle.paths.proofs.Run.{answer-is-not-spent}
 -- ---- on keys alone
 
 module _ {A : Type 0} (N : Nodes A) where
-  pub stack-after-length : (k : ℕ) (stack : List A) → length (stack-after N k stack) ≤ length stack + k
-  unfolding stack-after
-  stack-after-length zero stack = omega arith
-  stack-after-length (suc k) [] = omega arith
-  stack-after-length (suc k) (x ∷ rest) = omega (arith, stack-after-length k (grow N x rest), grow-length N x rest)
-
   -- an empty stack stays, and so does the lowest sum
   none-after : (k : ℕ) → stack-after N k [] ≡ []
   unfolding stack-after

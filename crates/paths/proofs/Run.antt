@@ -48,16 +48,6 @@ module _ (t : Tree) (accept : Path → Bool) where
       go true k ih = answer-is-not-spent (first s) (count (step t s)) c (sym (run-ends a s k) ∙ e)
       go false k ih = ap (λ (j : ℕ). run t accept j s) (suc-add a b) ∙ run-goes-on (a + b) s k ∙ ih (sym (run-goes-on a s k) ∙ e)
 
-  -- the count of a spent run is the number of paths taken where it stopped
-  pub spent-run-count : (a c : ℕ) (s : State) → run t accept a s ≡ spent c → c ≡ count (steps t a s)
-  unfolding steps run
-  spent-run-count zero c s e = cc
-  spent-run-count (suc a) c s e = go (ends t accept s) refl (spent-run-count a c (step t s))
-    where
-      go : (d : Bool) → ends t accept s ≡ d → (run t accept a (step t s) ≡ spent c → c ≡ count (steps t a (step t s))) → c ≡ count (steps t a (step t s))
-      go true k ih = answer-is-not-spent (first s) (count (step t s)) c (sym (run-ends a s k) ∙ e)
-      go false k ih = ih (sym (run-goes-on a s k) ∙ e)
-
 module _ (t : Tree) (sound : Sound t) where
   -- a full path that is the head of the stack after k steps has number k + 1
   full-head : (k : ℕ) → is-full t (first (after t k)) ≡ true → Full t (first (after t k)) × (number t (first (after t k)) ≡ suc k)

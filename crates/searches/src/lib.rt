@@ -1,4 +1,4 @@
-// The questions and the answer of a column search: what the single calls (crates/store_searches) and the jobs of a batch (crates/store_batches) share.
+// The questions and the answer of a column search: what the single calls (crates/store_searches), the jobs of a batch (crates/store_batches) and the first call of a held search (crates/store_held) share.
 ghost use mathlib.Core.Path.{_≡_};
 ghost use Rattle.list_of_two.specs.Ways.{chosen};
 ghost use Rattle.questions.specs.declared.Outcome.the-variants.{Done, Refused};

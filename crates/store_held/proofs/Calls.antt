@@ -28,10 +28,10 @@ use Rattle.held.specs.State.{Ready, Stopped, WentOn}
 use Rattle.held.specs.declared.Held.{Held}
 use Rattle.held.specs.declared.Gone.{Gone}
 use Rattle.held.proofs.GoesOn.{begun-is-ready, begun-is-stopped}
-use Rattle.store_held.specs.Names.{Kept, kept, under, askHold, holdAnswer, askMore, summedLimit, askTake, keptAnswer, takeAnswer, longer}
+use Rattle.store_held.specs.Names.{Kept, kept, under, isKept, askHold, holdAnswer, askMore, summedLimit, askTake, keptAnswer, takeAnswer, longer}
 use Rattle.store_held.specs.Calls.{entry, withEntry, keptOf, namesOf, Made, HoldCall, Ended, TakeCall}
 use Rattle.store_held.specs.declared.Store.{Store}
-use Rattle.store_held.proofs.Entries.{names-with, under-is, summed-is, kept-is, nothing-is-free, made-with, nothing-is-made, stopped-is-made, made-is-stopped}
+use Rattle.store_held.proofs.Entries.{names-with, under-is, summed-is, kept-where-some, kept-is, nothing-is-free, made-with, nothing-is-made, stopped-is-made, made-is-stopped}
 
 -- a refusal by another number than 9
 abbrev NotNine : Outcome → Type 0
@@ -41,11 +41,11 @@ NotNine (Asked n p) = n ≡ 9 → ⊥
 nine-is-not : (n : ℕ) {A : Type 0} (a b : A) → (n ≡ 9 → ⊥) → cond (eqb n 9) a b ≡ b
 nine-is-not n a b none = ap (λ (t : Bool). cond t a b) (ne-eqb n 9 none)
 
-found-is-not-refused : {w c : ℕ} {z : ℤ} {n p : ℕ} → Found w c z ≡ Refused n p → ⊥
+pub found-is-not-refused : {w c : ℕ} {z : ℤ} {n p : ℕ} → Found w c z ≡ Refused n p → ⊥
 found-is-not-refused e = let z : _≡_ {A = ℕ} 0 1 = cc e in absurd (omega arith)
 
 -- the supercode search of an allowed column answers by its outcome
-pub searched-answer : (soft : List ℕ) (level limit : ℕ) → Allowed level soft limit → searchAnswer off supercode level soft limit ≡ outcomeAnswer (searched (columnTrellis soft level) limit)
+searched-answer : (soft : List ℕ) (level limit : ℕ) → Allowed level soft limit → searchAnswer off supercode level soft limit ≡ outcomeAnswer (searched (columnTrellis soft level) limit)
 searched-answer soft level limit allowed = all-yes off level soft limit refl allowed Refused _
 
 -- ---- a first call
@@ -189,7 +189,8 @@ module _ (s : Store) (name limit : ℕ) where
 
   module _ (low : name < 4) where
     asks-more : {A : Type 0} (refusal : ℕ → ℕ → A) (next : A) → askTake (namesOf s) name limit refusal next ≡ askMore (entry s name .limit) limit refusal next
-    asks-more refusal next = rw (lt-ltb name 4 low, ap summedLimit (under-is s name), summed-is (entry s name)) refl
+    asks-more refusal next =
+        rw (lt-ltb name 4 low, ap isKept (under-is s name) ∙ kept-where-some (entry s name), ap summedLimit (under-is s name) ∙ summed-is (entry s name)) refl
 
     pub take-refused : (n p : ℕ) → Asked n p ≡ askMore (entry s name .limit) limit Asked Done → TakeCall s name limit (record { answer = Refused n p; store = s })
     take-refused n p e =
@@ -237,11 +238,12 @@ module _ (s : Store) (name limit : ℕ) where
             let most : r .held .limit ≤ 2000 = omega (arith, bounds .2, w .summed) in
             let same : kept (r .held .column) (r .held .level) (r .held .limit) ≡ kept (h .column) (h .level) (h .limit + limit) = simp (w .column, w .level, w .summed) in
             let is : keptOf (r .held) ≡ longer (under (namesOf s) name) limit = kept-is (r .held) some ∙ same ∙ ap (λ (k : Kept). longer k limit) (sym is-kept) in
+            let stays : Made h → Made (r .held) = λ m. stopped-is-made (r .held) some most (w .stopped (stopped-of m) e) in
             record {
               asked = λ m q f. absurd (none-asked m q f);
               ended = λ f. (inl refl, refl);
               names = names-with s name (r .held) ∙ ap (set (namesOf s) name) is;
-              left = (λ q. (r .held, refl), λ q. absurd (q refl));
+              left = (λ q. (r .held, refl, stays), λ q. absurd (q refl));
               answer = λ m. let st = stopped-of m in answered (ap asAnswer (sym e) ∙ answered-as _ (w .found st) ∙ sym (take-due st));
-              made = λ m. made-with s name (r .held) (stopped-is-made (r .held) some most (w .stopped (stopped-of (m .each name low)) e)) m;
+              made = λ m. made-with s name (r .held) (stays (m .each name low)) m;
             }

@@ -24,7 +24,7 @@ use Rattle.store_held.specs.Calls.{entry, keptOf, namesOf, MadeStore, Ta
 use Rattle.store_held.specs.Stories.{take}
 use Rattle.store_held.specs.declared.Store.{Store}
 use Rattle.store_held.specs.declared.HeldAnswer.{HeldAnswer}
-use Rattle.store_held.proofs.Entries.{under-is, kept-is, kept-has-steps, nothing-is-free}
+use Rattle.store_held.proofs.Entries.{under-is, kept-is, nothing-is-free}
 use Rattle.store_held.proofs.Stories.{answers-by-the-rules, taken-up-is-one-search}
 
 -- a name holds this search, and is taken up with a limit that 4 and 18 let through
@@ -32,7 +32,7 @@ module _ (s : Store) (m : MadeStore s) (name : ℕ) (low : name < 4) (soft : Lis
   held-so : keptOf (entry s name) ≡ kept soft level summed
   held-so = sym (under-is s name) ∙ is
 
-  pub kept-is-allowed : Allowed level soft (summed + limit)
+  kept-is-allowed : Allowed level soft (summed + limit)
   kept-is-allowed = go (m .each name low .made)
     where
       never : free ≡ kept soft level summed → ⊥
@@ -59,7 +59,7 @@ module _ (s : Store) (m : MadeStore s) (name : ℕ) (low : name < 4) (soft : Lis
     answer-is : r .answer ≡ searchAnswer off supercode level soft (summed + limit)
     answer-is =
         answers-by-the-rules s m r (take name limit) t
-        ∙ taken-up-is-one-search (namesOf s) name soft level summed limit is low (kept-has-steps (entry s name) soft level summed held-so) some most
+        ∙ taken-up-is-one-search (namesOf s) name soft level summed limit is low some most
 
     -- w is the codeword ahead of all others, and ps lists the paths that are prefixes of it or ahead of it
     pub taken-up-answers-within-the-sum : length ps ≤ summed + limit → r .answer ≡ Found (columnOf w) (length ps) (low-point (sum (levelValues level) soft) w)

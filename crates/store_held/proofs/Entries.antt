@@ -5,14 +5,14 @@ use mathlib.Core.Bool.{Bool, true, false, cond}
 use mathlib.Core.List.{List, [], _∷_, map}
 use mathlib.Core.Logic.{_⊎_, inl, inr}
 use mathlib.Core.Path.{_≡_, refl, sym, ap, _∙_, subst⁻¹}
-use lib.Dec.{eqb}
+use lib.Dec.{eqb, leb}
 use lib.ListN.{length, set, length-set, List·getD-map}
 use lib.Seq.{getD-set-same, getD-set-other}
-use borrow.Author.Tests.{eqb-true, eqb-false, ne-eqb}
+use borrow.Author.Tests.{eqb-true, eqb-false, ne-eqb, le-leb, lt-leb}
 use Rattle.held.specs.Entry.{nothingHeld}
 use Rattle.held.specs.State.{Stopped}
 use Rattle.held.specs.declared.Held.{Held}
-use Rattle.store_held.specs.Names.{free, kept, under, summedLimit, noneKept}
+use Rattle.store_held.specs.Names.{free, kept, under, isKept, summedLimit, noneKept}
 use Rattle.store_held.specs.Calls.{emptyStore, entry, withEntry, keptOf, namesOf, Made, MadeStore}
 use Rattle.store_held.specs.declared.Store.{Store}
 
@@ -38,18 +38,17 @@ summed-is h = go (eqb (h .limit) 0) refl
     go true e = sym (eqb-true (h .limit) 0 e)
     go false e = refl
 
+pub kept-where-some : (h : Held) → isKept (keptOf h) ≡ leb 1 (h .limit)
+unfolding keptOf
+kept-where-some h = go (eqb (h .limit) 0) refl
+  where
+    go : (b : Bool) → eqb (h .limit) 0 ≡ b → isKept (cond b free (kept (h .column) (h .level) (h .limit))) ≡ leb 1 (h .limit)
+    go true e = sym (lt-leb 1 (h .limit) (omega (arith, eqb-true (h .limit) 0 e)))
+    go false e = sym (le-leb 1 (h .limit) (omega (arith, eqb-false (h .limit) 0 e)))
+
 pub kept-is : (h : Held) → 1 ≤ h .limit → keptOf h ≡ kept (h .column) (h .level) (h .limit)
 unfolding keptOf
 kept-is h some = ap (λ (b : Bool). cond b free (kept (h .column) (h .level) (h .limit))) (ne-eqb (h .limit) 0 (omega arith))
-
--- a search that is kept has taken a step
-pub kept-has-steps : (h : Held) (soft : List ℕ) (level summed : ℕ) → keptOf h ≡ kept soft level summed → 1 ≤ summed
-unfolding keptOf
-kept-has-steps h soft level summed e = go (eqb (h .limit) 0) refl e
-  where
-    go : (b : Bool) → eqb (h .limit) 0 ≡ b → cond b free (kept (h .column) (h .level) (h .limit)) ≡ kept soft level summed → 1 ≤ summed
-    go true zeroth q = let z : _≡_ {A = ℕ} 0 1 = cc q in absurd (omega arith)
-    go false some q = let same : h .limit ≡ summed = cc q in omega (arith, eqb-false (h .limit) 0 some)
 
 pub nothing-is-free : keptOf nothingHeld ≡ free
 unfolding keptOf nothingHeld
@@ -61,7 +60,7 @@ none-is-kept = refl
 
 -- ---- one entry is put in
 
-pub same-entry : (s : Store) (name : ℕ) (h : Held) → length (s .names) ≡ 4 → name < 4 → entry (withEntry s name h) name ≡ h
+same-entry : (s : Store) (name : ℕ) (h : Held) → length (s .names) ≡ 4 → name < 4 → entry (withEntry s name h) name ≡ h
 same-entry s name h e l = getD-set-same (s .names) name h _ (omega (arith, e))
 
 pub other-entry : (s : Store) (name k : ℕ) (h : Held) → (k ≡ name → ⊥) → entry (withEntry s name h) k ≡ entry s k

@@ -12,16 +12,17 @@ use borrow.Author.Tests.{eqb-true, eqb-false, ne-eqb, lt-ltb, le-ltb, le-leb}
 use Rattle.trellis.specs.Demand.{supercode}
 use Rattle.trellis.specs.TwoWords.{off}
 use Rattle.questions.specs.Questions.{ask}
-use Rattle.searches.specs.Searches.{searchAnswer}
+use Rattle.searches.specs.Searches.{number, place, searchAnswer}
 use Rattle.searches.specs.declared.SearchAnswer.{SearchAnswer}
 use Rattle.searches.specs.declared.SearchAnswer.the-variants.{Found, Refused}
 use Rattle.held.specs.Entry.{nothingHeld}
-use Rattle.store_held.specs.Names.{Kept, free, kept, Names, noneKept, under, holdAnswer, namesHeld, askMore, summedLimit, keptAnswer, takeAnswer, longer, namesTaken}
+use Rattle.store_held.specs.Names.{Kept, free, kept, Names, noneKept, under, holdAnswer, namesHeld, askKept, keptAnswer, takeAnswer, longer, namesTaken}
 use Rattle.store_held.specs.Calls.{emptyStore, entry, keptOf, namesOf, MadeStore, HoldCall, Left, TakeCall}
-use Rattle.store_held.specs.Stories.{Call, hold, take, answerTo, namesThen, answersOf, namesAfter, addedBy, added, Spares, Spared, Gave, Story, leftBy, answersIn}
+use Rattle.store_held.specs.Stories.{Call, hold, take, nameOf, answerTo, namesThen, answersOf, namesAfter, addedBy, added, Spares, Spared, Gave, Story, leftBy, answersIn}
 use Rattle.store_held.specs.declared.Store.{Store}
 use Rattle.store_held.specs.declared.HeldAnswer.{HeldAnswer}
-use Rattle.store_held.proofs.Entries.{under-is, kept-has-steps, none-is-kept, other-entry, empty-is-made}
+use Rattle.store_held.proofs.Entries.{none-is-kept, other-entry, empty-is-made}
+use Rattle.store_held.proofs.Calls.{found-is-not-refused}
 
 -- ---- a call on a store that the calls made answers by the rules, and leaves such a store, with the names that the rules say
 
@@ -81,11 +82,11 @@ in-range names name soft level summed e = go (decLe (length names) name)
     go (no l) = omega arith
 
 -- 02: "Word and count are then those of one search with the summed limit."
-pub taken-up-is-one-search : (names : Names) (name : ℕ) (soft : List ℕ) (level summed limit : ℕ) → under names name ≡ kept soft level summed → name < 4 → 1 ≤ summed → 1 ≤ limit → summed + limit ≤ 2000
+pub taken-up-is-one-search : (names : Names) (name : ℕ) (soft : List ℕ) (level summed limit : ℕ) → under names name ≡ kept soft level summed → name < 4 → 1 ≤ limit → summed + limit ≤ 2000
     → takeAnswer names name limit ≡ searchAnswer off supercode level soft (summed + limit)
-taken-up-is-one-search names name soft level summed limit e low held some most =
+taken-up-is-one-search names name soft level summed limit e low some most =
     let few : limit ≤ 2000 = omega arith in
-    rw (lt-ltb name 4 low, e, le-leb 1 summed held, le-leb 1 limit some, le-leb limit 2000 few, le-leb (summed + limit) 2000 most) refl
+    rw (lt-ltb name 4 low, e, le-leb 1 limit some, le-leb limit 2000 few, le-leb (summed + limit) 2000 most) refl
 
 -- what a call leaves under a name that it spares: the same search, with the steps that it added
 module _ (name : ℕ) (soft : List ℕ) (level : ℕ) where
@@ -150,19 +151,45 @@ module _ (s : Store) (m : MadeStore s) (name : ℕ) (low : name < 4) (soft : Lis
       let is : under (namesOf (leftBy (held .store) given)) name ≡ kept soft level (first + sum) =
       ap (λ (n : Names). under n name) (rules .1) ∙ spared-is-kept-with-the-sum name soft level calls (namesOf (held .store)) first put spared in
       answers-by-the-rules (leftBy (held .store) given) (rules .2) r (take name limit) t
-      ∙ taken-up-is-one-search (namesOf (leftBy (held .store) given)) name soft level (first + sum) limit is low (kept-has-steps (entry (leftBy (held .store) given) name) soft level (first + sum) (sym (under-is (leftBy (held .store) given) name) ∙ is)) some most
+      ∙ taken-up-is-one-search (namesOf (leftBy (held .store) given)) name soft level (first + sum) limit is low some most
 
--- Two stories that give a name the same column, level and summed limit answer alike.
-pub stories-answer-alike : (s s′ : Store) → MadeStore s → MadeStore s′ → (name limit : ℕ) → under (namesOf s) name ≡ under (namesOf s′) name
+-- where two stores keep the same under a name, taking it up answers alike
+alike-kept-answers-alike : (s s′ : Store) → MadeStore s → MadeStore s′ → (name limit : ℕ) → under (namesOf s) name ≡ under (namesOf s′) name
     → (r r′ : HeldAnswer) → TakeCall s name limit r → TakeCall s′ name limit r′ → r .answer ≡ r′ .answer
-stories-answer-alike s s′ m m′ name limit same r r′ t t′ =
+alike-kept-answers-alike s s′ m m′ name limit same r r′ t t′ =
     answers-by-the-rules s m r (take name limit) t
-    ∙ ap (λ (k : Kept). ask (ltb name 4) (Refused 16 0) (askMore (summedLimit k) limit Refused (keptAnswer k limit))) same
+    ∙ ap (λ (k : Kept). ask (ltb name 4) (Refused 16 0) (askKept k limit Refused (keptAnswer k limit))) same
     ∙ sym (answers-by-the-rules s′ m′ r′ (take name limit) t′)
 
--- no other name changes, on any store
-pub others-stay : (s : Store) (name limit : ℕ) (r : HeldAnswer) → TakeCall s name limit r → (k : ℕ) → (k ≡ name → ⊥) → entry (r .store) k ≡ entry s k
-others-stay s name limit r t k away = go (r .answer) (t .left)
+-- Two stories from the empty store that give a name the same column, level and summed limit answer alike.
+pub stories-answer-alike : (calls calls′ : List Call) (given given′ : List HeldAnswer) → Story emptyStore calls given → Story emptyStore calls′ given′
+    → (name limit : ℕ) → under (namesAfter noneKept calls) name ≡ under (namesAfter noneKept calls′) name
+    → (r r′ : HeldAnswer) → TakeCall (leftBy emptyStore given) name limit r → TakeCall (leftBy emptyStore given′) name limit r′ → r .answer ≡ r′ .answer
+stories-answer-alike calls calls′ given given′ story story′ name limit same =
+    let one = story-from-the-empty-store calls given story in
+    let other = story-from-the-empty-store calls′ given′ story′ in
+    alike-kept-answers-alike (leftBy emptyStore given) (leftBy emptyStore given′) (one .2) (other .2) name limit
+    (ap (λ (n : Names). under n name) (one .1) ∙ same ∙ ap (λ (n : Names). under n name) (sym (other .1)))
+
+-- no other name changes, by any call on any store
+pub others-stay : (s : Store) (c : Call) (r : HeldAnswer) → Gave s c r → (k : ℕ) → (k ≡ nameOf c → ⊥) → entry (r .store) k ≡ entry s k
+others-stay s (hold name soft level limit) r g k away = go (r .answer) refl
+  where
+    stays : r .store ≡ s → entry (r .store) k ≡ entry s k
+    stays e = ap (λ (n : Store). entry n k) e
+
+    go : (a : SearchAnswer) → r .answer ≡ a → entry (r .store) k ≡ entry s k
+    go (Found w c z) e = stays (g .else (λ q. found-is-not-refused (sym e ∙ q)))
+    go (Refused n p) e = by (eqb n 9) (eqb p 0) refl refl
+      where
+        by : (a b : Bool) → eqb n 9 ≡ a → eqb p 0 ≡ b → entry (r .store) k ≡ entry s k
+        by true true i j =
+            let is : Refused n p ≡ Refused 9 0 = ap₂ Refused (eqb-true n 9 i) (eqb-true p 0 j) in
+            let put = g .nine (e ∙ is) in
+            ap (λ (n : Store). entry n k) (put .2) ∙ other-entry s name k (put .0) away
+        by false b i j = stays (g .else (λ q. eqb-false n 9 i (ap number (sym e ∙ q))))
+        by true false i j = stays (g .else (λ q. eqb-false p 0 j (ap place (sym e ∙ q))))
+others-stay s (take name limit) r g k away = go (r .answer) (g .left)
   where
     go : (a : SearchAnswer) → Left a s name (r .store) → entry (r .store) k ≡ entry s k
     go (Found w c z) l = ap (λ (n : Store). entry n k) l ∙ other-entry s name k nothingHeld away

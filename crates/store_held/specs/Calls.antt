@@ -23,7 +23,7 @@ use Rattle.store_held.specs.declared.HeldAnswer.{HeldAnswer}
 unfoldable pub emptyStore : Store
 emptyStore = record { names = replicate 4 nothingHeld }
 
--- what a name holds; above 3, where no name is, an entry without column
+-- what a name holds; above 3, where no name is, the value that reading outside an array has in the logic
 abbrev pub entry : Store → ℕ → Held
 entry s k = getD (s .names) k (record {
   limit = 0;
@@ -71,17 +71,17 @@ pub record HoldCall (s : Store) (name : ℕ) (soft : List ℕ) (level limit : �
   pub else : (r .answer ≡ Refused 9 0 → ⊥) → r .store ≡ s
   pub made : MadeStore s → MadeStore (r .store)
 
--- what is left of a store by an answer of taking up: a word frees the name, a 9 puts an entry under it, any other number leaves the store as it was
+-- what is left of a store by an answer of taking up: a word frees the name, a 9 puts an entry under it, one that the calls made in the place of one that they made; any other number leaves the store as it was
 abbrev pub Left : SearchAnswer → Store → ℕ → Store → Type 0
 Left (Found w c z) s name new = new ≡ withEntry s name nothingHeld
-Left (Refused n p) s name new = (n ≡ 9 → (h : Held) × (new ≡ withEntry s name h)) × ((n ≡ 9 → ⊥) → new ≡ s)
+Left (Refused n p) s name new = (n ≡ 9 → (h : Held) × (new ≡ withEntry s name h) × (Made (entry s name) → Made h)) × ((n ≡ 9 → ⊥) → new ≡ s)
 
 -- what the answer is where all questions before 9 are answered yes, on any store: a word, 9, or 17 for an entry that no search can go on from
 abbrev pub Ended : SearchAnswer → Type 0
 Ended (Found w c z) = Unit {0}
 Ended (Refused n p) = ((n ≡ 9) ⊎ (n ≡ 17)) × (p ≡ 0)
 
--- Taking up, on every store: the questions, what the names hold by the answer, and which bytes of the store may change. Which of the three answers `Ended` allows a store of other making gets is left open.
+-- Taking up, on every store: the questions, what the names hold by the answer, and which bytes of the store may change. On a store of other making, which of the answers that `Ended` allows is left open.
 -- Where the calls made the entry, the answer is that of one search with the summed limit.
 pub record TakeCall (s : Store) (name limit : ℕ) (r : HeldAnswer) : Type 0 where
   pub asked : (n p : ℕ) → askTake (namesOf s) name limit Asked Done ≡ Asked n p → r .answer ≡ Refused n p

@@ -16,6 +16,11 @@ pub data Call : Type 0 where
   hold : ℕ → List ℕ → ℕ → ℕ → Call
   take : ℕ → ℕ → Call
 
+-- the name of a call
+abbrev pub nameOf : Call → ℕ
+nameOf (hold name soft level limit) = name
+nameOf (take name limit) = name
+
 -- ---- by 02's rules alone
 
 -- what a call answers where the names hold this, and what they hold then

@@ -1,5 +1,5 @@
 // Held searches: 02, point 13. A spent supercode search is held under one of four names and taken up later with more steps.
-// The store of names goes in and comes back by value: 56 KB, so that a call and its caller need some 0.4 MB of stack.
+// The store of names goes in and comes back by value: 56 KB, so a call and its caller need some 0.4 MB of stack.
 ghost use mathlib.Core.Path.{_≡_};
 ghost use Rattle.questions.specs.declared.Outcome.the-variants.{Done, Refused};
 ghost use Rattle.store_held.specs.Names.{askHold, askMore};
