@@ -1,20 +1,18 @@
 -- A held search that goes on: from where the definition's search stops, its outcome is that of the definition's search with the larger limit, and if it is spent, it stops there again. Assumes nothing.
-use Prim.Native.Nat.{ℕ, _+_, _-_, _<_, _≤_}
+use Prim.Native.Nat.{ℕ, zero, suc, _+_, _-_, _<_, _≤_}
 use native.Mathlib.Omega.{arith}
 use mathlib.Core.Bool.{Bool, true, false, cond}
-use mathlib.Core.List.{List, [], map}
+use mathlib.Core.List.{List, [], _∷_, map}
 use mathlib.Core.Logic.{_⊎_, inl, inr}
 use mathlib.Core.Path.{_≡_, refl, sym, ap, ap₂, _∙_, subst, subst⁻¹}
 use lib.Dec.{eqb}
 use lib.IntN.{ℤ, pos}
 use lib.ListN.{length, getD}
-use lib.Seq.{ext-getD}
 use borrow.Author.Tests.{eq-eqb, eqb-true, eqb-false}
 use mir.Syntax.{w16}
 use mir.Val.{SFits, toZ, ofZ}
 use mir.Facts.{toZ-ofZ}
-use Rattle.column.specs.Shape.{Code, short}
-use Rattle.column.specs.Mask.{MasksOf}
+use Rattle.column.specs.Shape.{short}
 use Rattle.paths.specs.Tree.{Tree, Sound}
 use Rattle.paths.specs.Stack.{Nodes, extend, grow}
 use Rattle.paths.specs.Search.{SearchResult, answer, spent, start, steps, after, run, limited-search}
@@ -37,18 +35,8 @@ use Rattle.search.specs.declared.SearchOutcome.the-variants.{Found, Spent}
 use Rattle.search.proofs.Continues.{standing-start, holds-none, start-grows}
 use Rattle.search.proofs.ShortSearch.{search-short, level-not-above}
 use Rattle.held.specs.Entry.{begunHeld, columnTrellis, heldTrellis, lastOf, pathsOf}
-use Rattle.held.specs.State.{outcomeAt, Ready, Stopped}
+use Rattle.held.specs.State.{LastTaken, outcomeAt, Ready, Stopped}
 use Rattle.held.specs.declared.Held.{Held}
-
--- ---- the tables of a level are one pair
-
-same-table : (C : Code) (a b : List ℕ) → length a ≡ 30 → length b ≡ 30 → MasksOf 30 C a → MasksOf 30 C b → a ≡ b
-same-table C a b ha hb ma mb = ext-getD 0 a b (ha ∙ sym hb) (λ k l. ma k (omega (arith, ha, l)) ∙ sym (mb k (omega (arith, ha, l))))
-
-every-table : (P : List ℕ → List ℕ → Type 0) (i : ℕ) (a b : List ℕ) → SupercodesAt i a b → P a b → (left right : List ℕ) → SupercodesAt i left right → P left right
-every-table P i a b m p left right n =
-    subst (λ (l : List ℕ). P l right) (same-table _ a left (m .lefts) (n .lefts) (m .masks .0) (n .masks .0))
-    (subst (λ (r : List ℕ). P a r) (same-table _ b right (m .rights) (n .rights) (m .masks .1) (n .masks .1)) p)
 
 spent-by-bits : (o : SearchResult (WithLow Key)) (c : ℕ) → by-bits o ≡ spent c → o ≡ spent c
 spent-by-bits (answer k d) c e = let z : _≡_ {A = ℕ} 0 1 = cc e in absurd (omega arith)
@@ -103,7 +91,7 @@ module _ (soft : List ℕ) (i : ℕ) (level : i < 4) (left right : List ℕ) (ma
 abbrev moved : Held → ℕ → ℕ → Key → ℤ → List ℤ → List ℕ → List ℕ → Held
 moved h limit m p z sums lens bits = record { limit = limit; level = h .level; paths = m; last = p .bits; sum = p .sum; low = z; len = p .len; column = h .column; lens = lens; sums = sums; bits = bits }
 
-module _ (h : Held) (s : Stopped h) (limit : ℕ) (le : h .limit ≤ limit) (left right : List ℕ) (table : List ℤ) (tables : TablesFor supercode (h .level) left right table) where
+module _ (h : Held) (s : Stopped h) (limit : ℕ) (more : h .limit < limit) (left right : List ℕ) (table : List ℤ) (tables : TablesFor supercode (h .level) left right table) where
   abbrev k : ℕ
   k = h .limit
 
@@ -119,8 +107,17 @@ module _ (h : Held) (s : Stopped h) (limit : ℕ) (le : h .limit ≤ limit) (lef
   masks : SupercodesAt (h .level) left right
   masks = record { masks = tables .masks; lefts = tables .lefts; rights = tables .rights }
 
+  -- the heap with the extensions of the last path taken is the definition's stack
   on-stack : grow N (lastOf h) (s .rest) ≡ stack-after N k begun
-  on-stack = s .stack left right masks ∙ stack-is (h .column) (h .level) (s .ready .level) left right masks k
+  unfolding stack-after
+  on-stack = go k (s .stack)
+    where
+      go : (n : ℕ) → LastTaken h n (s .rest) → grow N (lastOf h) (s .rest) ≡ stack-after N n begun
+      go zero e = ap₂ (grow N) (e .0) (e .1) ∙ start-grows 30 (levelValues (h .level)) (h .column) left right (omega arith)
+      go (suc n) e =
+          let one-more : n + 1 ≡ suc n = omega arith in
+          ap (stack-after N 1) (e ∙ stack-is (h .column) (h .level) (s .ready .level) left right masks n) ∙ stack-after-both N n 1 begun
+          ∙ ap (λ (j : ℕ). stack-after N j begun) one-more
 
   low-after-k : h .low ≡ low-after N k noneTaken begun
   low-after-k = one-lowest _ (h .low) (low-after N k noneTaken begun) (s .low) (low-is (h .column) (h .level) (s .ready .level) left right masks k)
@@ -189,14 +186,17 @@ module _ (h : Held) (s : Stopped h) (limit : ℕ) (le : h .limit ≤ limit) (lef
           let g = spent-is none .0 in
           let all = spent-is none .1 in
           let steps : k + (c - k) ≡ limit = omega (arith, g .later) in
+          let before : c ≡ k + suc (limit - k - 1) = omega arith in
+          let up-to : suc (k + (limit - k - 1)) ≡ limit = omega arith in
+          let first : p ∷ g .rest ≡ map (keyOf (levelValues (h .level)) (h .column)) (after (heldTrellis h) (k + (limit - k - 1)) .stack) =
+          g .taken (limit - k - 1) before ∙ ap (stack-after N (limit - k - 1)) on-stack ∙ stack-after-both N k (limit - k - 1) begun ∙ sym (stack-is (h .column) (h .level) (s .ready .level) left right masks (k + (limit - k - 1))) in
           record {
             ready = record { level = s .ready .level; full = s .ready .full; range = s .ready .range; standing = subst (λ (n : ℕ). Standing 30 (pathsOf r) m n p) all standing };
             partial = omega (arith, standing .good .short);
             spent = sym (search-is (h .column) (h .level) (s .ready .level) left right masks limit) ∙ ap by-bits (spent-is none .2) ∙ ap spent all;
             rest = g .rest;
             holds = g .holds;
-            stack = every-table (λ (a b : List ℕ). grow (keyNodes 30 (levelValues (h .level)) (h .column) a b) p (g .rest) ≡ map (keyOf (levelValues (h .level)) (h .column)) (after (heldTrellis h) limit .stack)) (h .level) left right masks
-                (g .stack ∙ ap (stack-after N (c - k)) on-stack ∙ stack-after-both N k (c - k) begun ∙ ap (λ (n : ℕ). stack-after N n begun) steps ∙ sym (stack-is (h .column) (h .level) (s .ready .level) left right masks limit));
+            stack = subst (λ (n : ℕ). LastTaken r n (g .rest)) up-to first;
             low =
                 subst⁻¹ (λ (y : ℤ). LowSoFar (heldTrellis h) noneTaken (after (heldTrellis h) limit .taken) y)
                 (g .low-is ∙ ap₂ (low-after N (c - k)) low-after-k on-stack ∙ low-after-both N k (c - k) noneTaken begun ∙ ap (λ (n : ℕ). low-after N n noneTaken begun) steps)
@@ -238,6 +238,6 @@ begun-is-stopped soft level ready =
       spent = refl;
       rest = [];
       holds = holds-none _;
-      stack = λ left right masks. start-grows 30 (levelValues level) soft left right (omega arith) ∙ sym (stack-is soft level (ready .level) left right masks 0);
+      stack = (refl, refl);
       low = low-at-start (columnTrellis soft level) noneTaken;
     }

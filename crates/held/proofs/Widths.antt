@@ -49,7 +49,7 @@ module _ (f g : ℕ → Key) (m : ℕ) (same : (j : ℕ) → j < m → g j ≡ f
     where
       go : ((limit ≤ c) × Going N 30 limit f k last low xs m c p z) ⊎ (Answered N 30 limit f k last low xs m c p z ⊎ Ended N 30 limit f k last low xs m c p z)
           → ((limit ≤ c) × Going N 30 limit g k last low xs m c p z) ⊎ (Answered N 30 limit g k last low xs m c p z ⊎ Ended N 30 limit g k last low xs m c p z)
-      go (inl (h, a)) = inl ((h, record { rest = a .rest; holds = holds-same (a .rest) (a .holds); later = a .later; within = a .within; partial = a .partial; same = a .same; stack = a .stack; low-is = a .low-is }))
+      go (inl (h, a)) = inl ((h, record { rest = a .rest; holds = holds-same (a .rest) (a .holds); later = a .later; within = a .within; partial = a .partial; same = a .same; taken = a .taken; stack = a .stack; low-is = a .low-is }))
       go (inr (inl a)) = inr (inl (record { rest = a .rest; holds = holds-same (a .rest) (a .holds); later = a .later; within = a .within; full = a .full; same = a .same; stack = a .stack; low-is = a .low-is }))
       go (inr (inr e)) = inr (inr (record { later = e .later; within = e .within; none = e .none; same = e .same }))
 

@@ -2,20 +2,20 @@
 use mathlib.Core.Bool.{cond}
 use mathlib.Core.List.{List, [], _∷_, _++_, map}
 use mathlib.Core.Path.{_≡_}
-use Prim.Native.Nat.{ℕ, _-_, _/_, _<_, _≤_}
+use Prim.Native.Nat.{ℕ, zero, suc, _-_, _/_, _<_, _≤_}
 use lib.Dec.{eqb}
+use lib.IntN.{pos}
 use lib.ListN.{length, getD}
 use Rattle.paths.specs.Low.{Lowest}
-use Rattle.paths.specs.Stack.{grow}
 use Rattle.paths.specs.Search.{after, spent}
 use Rattle.heap.specs.Holds.{Holds}
 use Rattle.trellis.specs.Values.{levelValues}
-use Rattle.trellis.specs.Keys.{Key, keyOf, keyNodes, noneTaken}
+use Rattle.trellis.specs.Keys.{Key, key, keyOf, noneTaken}
 use Rattle.trellis.specs.Trellis.{searched}
 use Rattle.stack.specs.Places.{Upto}
 use Rattle.extension.specs.Steps.{Held as HeldPath}
 use Rattle.search.specs.Progress.{Standing}
-use Rattle.search.specs.Outcomes.{SupercodesAt, codeOutcome}
+use Rattle.search.specs.Outcomes.{codeOutcome}
 use Rattle.search.specs.declared.Progress.{Progress}
 use Rattle.search.specs.declared.SearchOutcome.{SearchOutcome}
 use Rattle.search.specs.declared.SearchOutcome.the-variants.{Found, Spent}
@@ -30,16 +30,19 @@ pub record Ready (h : Held) : Type 0 where
   pub range : (k : ℕ) → k < 30 → getD (h .column) k 0 ≤ 7
   pub standing : Standing 30 (pathsOf h) (h .paths) (h .limit) (lastOf h)
 
--- An entry holds the search of its column: as many steps as its limit says took no word, and it stands where the definition's search stands after them.
--- How the heap is filled is left open. It holds a list `rest` in the order: with the extensions of the path that the entry names as its last, by any tables of the supercodes' masks, this is the definition's stack.
+-- the last path taken, and what the heap holds: first and rest of the definition's stack before the last of so many steps; before a step is made there is neither
+abbrev pub LastTaken : Held → ℕ → List Key → Type 0
+LastTaken h zero rest = (lastOf h ≡ key (pos 0) 0 0) × (rest ≡ [])
+LastTaken h (suc k) rest = lastOf h ∷ rest ≡ map (keyOf (levelValues (h .level)) (h .column)) (after (heldTrellis h) k .stack)
+
+-- An entry holds the search of its column: as many steps as its limit says took no word, and it stands where the definition's search stands after them. How the heap is filled is left open; it holds a list in the order.
 pub record Stopped (h : Held) : Type 0 where
   pub ready : Ready h
   pub partial : h .len < 30
   pub spent : searched (heldTrellis h) (h .limit) ≡ spent (h .limit)
   pub rest : List Key
   pub holds : Holds Upto (pathsOf h) (h .paths) rest
-  pub stack : (left right : List ℕ) → SupercodesAt (h .level) left right
-      → grow (keyNodes 30 (levelValues (h .level)) (h .column) left right) (lastOf h) rest ≡ map (keyOf (levelValues (h .level)) (h .column)) (after (heldTrellis h) (h .limit) .stack)
+  pub stack : LastTaken h (h .limit) rest
   -- the lowest sum of the paths taken, 32,767 where none is
   pub low : Lowest (map (heldTrellis h .sum) (after (heldTrellis h) (h .limit) .taken) ++ (noneTaken ∷ [])) (h .low)
 

@@ -5,7 +5,7 @@
 
 pub mod ready;
 
-ghost use Prim.Native.Nat.{_≤_};
+ghost use Prim.Native.Nat.{_<_, _≤_};
 ghost use mathlib.Core.Path.{_≡_};
 ghost use lib.ListN.{length};
 ghost use Rattle.held.specs.Entry.{nothingHeld, begunHeld};
@@ -111,7 +111,7 @@ pub struct Gone {
 
 // A held search goes on, up to `limit` steps in all.
 pub fn go_on(held: Held, limit: u64) -> Gone
-    requires { ⌜ (held .limit ≤ limit) × (limit ≤ 2000) ⌝ }
+    requires { ⌜ (held .limit < limit) × (limit ≤ 2000) ⌝ }
     requires { ⌜ Ready held ⌝ }
     ensures { λ r. ⌜ WentOn held limit r ⌝ }
 {

@@ -56,6 +56,7 @@ module _ (n : ℕ) (table : List ℤ) (soft left right : List ℕ) (limit : ℕ)
         within = inr refl;
         partial = inr refl;
         same = λ accept fuel. let e : fuel + (c - c) ≡ fuel = omega arith in ap (λ (k : ℕ). run-keys N accept k c z (grow N p xs)) e;
+        taken = λ k e. absurd (omega (arith, e));
         stack = ap (λ (k : ℕ). stack-after N k (grow N p xs)) none;
         low-is = ap (λ (k : ℕ). low-after N k z (grow N p xs)) none;
       }
@@ -139,6 +140,7 @@ module _ (n : ℕ) (table : List ℤ) (soft left right : List ℕ) (limit : ℕ)
           within = inl (omega arith);
           partial = inl (omega (arith, d .good .short, nf));
           same = λ accept fuel. run-step e accept fuel ∙ ap (step accept fuel (e .0)) (ne-eqb (y .len) n nf);
+          taken = λ k i. let steps : c - c₀ ≡ k = omega (arith, i, g .later) in sym (e .1) ∙ g .stack ∙ ap (λ (j : ℕ). stack-after N j (grow N p₀ xs)) steps;
           stack = stack-step e;
           low-is = low-step e;
         })

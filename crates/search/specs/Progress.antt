@@ -1,9 +1,9 @@
 -- For the code's contracts: where a search stands, and what its way there was to the list that the heap holds. Assumes nothing.
 use mathlib.Core.Bool.{Bool, cond}
-use mathlib.Core.List.{List}
+use mathlib.Core.List.{List, _∷_}
 use mathlib.Core.Logic.{_⊎_}
 use mathlib.Core.Path.{_≡_}
-use Prim.Native.Nat.{ℕ, _+_, _-_, _≤_, _<_}
+use Prim.Native.Nat.{ℕ, suc, _+_, _-_, _≤_, _<_}
 use lib.IntN.{ℤ}
 use Rattle.paths.specs.Stack.{Nodes, grow}
 use Rattle.paths.specs.Search.{answer, spent}
@@ -31,6 +31,8 @@ module _ (N : Nodes Key) (size limit : ℕ) (f : ℕ → Key) (c : ℕ) (p : Key
     pub within : (c′ ≤ limit) ⊎ (c′ ≡ c)
     pub partial : (p′ .len < size) ⊎ (p′ ≡ p)
     pub same : (accept : Key → Bool) (fuel : ℕ) → run-keys N accept (fuel + (c′ - c)) c z (grow N p xs) ≡ run-keys N accept fuel c′ z′ (grow N p′ rest)
+    -- before the last step p′ stood first, and the rest behind it
+    pub taken : (k : ℕ) → c′ ≡ c + suc k → p′ ∷ rest ≡ stack-after N k (grow N p xs)
     -- the stack with the extensions of p′ is that after so many steps
     pub stack : grow N p′ rest ≡ stack-after N (c′ - c) (grow N p xs)
     -- z′ is the lowest sum after so many steps

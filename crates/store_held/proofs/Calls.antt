@@ -125,9 +125,9 @@ pub record BegunAndGone (soft : List ℕ) (level limit : ℕ) (r : Gone) : Type 
 pub begun-is-allowed : (soft : List ℕ) (level limit : ℕ) (h : Held) → h ≡ begunHeld soft level → Allowed level soft limit → Ready h
 begun-is-allowed soft level limit h e a = subst⁻¹ Ready e (begun-is-ready soft level (a .level) (a .full) (a .range))
 
-pub begun-is-below : (soft : List ℕ) (level limit : ℕ) (h : Held) → h ≡ begunHeld soft level → h .limit ≤ limit
+pub begun-is-below : (soft : List ℕ) (level limit : ℕ) (h : Held) → h ≡ begunHeld soft level → 1 ≤ limit → h .limit < limit
 unfolding begunHeld
-begun-is-below soft level limit h e = omega (arith, ap (λ (h : Held). h .limit) e)
+begun-is-below soft level limit h e some = omega (arith, ap (λ (h : Held). h .limit) e)
 
 pub begun-goes-on : (soft : List ℕ) (level limit : ℕ) (h : Held) → h ≡ begunHeld soft level → Allowed level soft limit → (r : Gone) → WentOn h limit r → BegunAndGone soft level limit r
 unfolding begunHeld

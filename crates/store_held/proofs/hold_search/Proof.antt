@@ -1,6 +1,6 @@
 -- `store_held::hold_search` meets its contract: the questions' answer settles which case it is, then the search's outcome. Assumes nothing.
 use mathlib.Core.Path.{_≡_, sym, ap, _∙_}
-use Prim.Native.Nat.{_≤_, _<_}
+use Prim.Native.Nat.{_<_}
 use mir.Syntax.{w16}
 use mir.Facts.{toZ-ofZ}
 use Rattle.questions.specs.declared.Outcome.the-variants.{Done, Refused}
@@ -44,7 +44,7 @@ go-on-requires : tie.Need-go-on-requires
 go-on-requires c κs =
     let a = start (c .before) .args in
     let may = allowed (c .before) .1 in
-    let none : c .begin .result .limit ≤ a .limit = begun-is-below (a .soft .now) (a .level) (a .limit) _ (c .begin .ensures) in
+    let none : c .begin .result .limit < a .limit = begun-is-below (a .soft .now) (a .level) (a .limit) _ (c .begin .ensures) (may .some) in
     ((none, may .most), begun-is-allowed (a .soft .now) (a .level) (a .limit) _ (c .begin .ensures) may)
 
 enum-known-found : tie.Need-enum-known-found

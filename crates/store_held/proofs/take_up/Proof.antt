@@ -61,7 +61,7 @@ add-go-on : tie.Need-add-go-on
 add-go-on c = let within = bounds (c .before .before) .2 in record { fits = omega (arith, within) }
 
 go-on-requires : tie.Need-go-on-requires
-go-on-requires c κs = ((omega arith, bounds (c .before .before) .2), c .before .is-ready .ensures .0 (not-false _ (c .if2 .left)))
+go-on-requires c κs = ((omega (arith, bounds (c .before .before) .1), bounds (c .before .before) .2), c .before .is-ready .ensures .0 (not-false _ (c .if2 .left)))
 
 enum-known-found : tie.Need-enum-known-found
 enum-known-found c = search needs
