@@ -20,3 +20,4 @@ pub mod Dead
 pub mod Keys
 pub mod TwoWords
 pub mod Bounded
+pub mod Listings

@@ -9,3 +9,4 @@ pub mod Dead
 pub mod Keys
 pub mod TwoWords
 pub mod Bounded
+pub mod Listings

@@ -6,7 +6,7 @@ use mathlib.Core.Path.{_≡_, refl, sym, ap, ap₂, _∙_}
 use Prim.Native.Nat.{ℕ, zero, suc, _+_, _*_, _/_, _%_, _^_, _<_}
 use native.Mathlib.Nat.{zero-lt-suc, pow-suc}
 use native.Mathlib.Omega.{arith}
-use lib.Dec.{ltb}
+use lib.Dec.{eqb, ltb}
 use lib.ListN.{length}
 use lib.Signed.{ltZ, _≤ℤ_}
 use borrow.Author.Tests.{ltb-true, ltb-false, lt-ltb, le-ltb}
@@ -16,7 +16,7 @@ use Rattle.paths.proofs.Prefixes.{same-equal, equal-same}
 use Rattle.paths.proofs.Booleans.{not-both}
 use Rattle.paths.proofs.Integers.{not-below, below-is-not-above}
 use Rattle.trellis.specs.Values.{Values}
-use Rattle.trellis.specs.Order.{bit, number, sum, zeroFirst, firstBy, before}
+use Rattle.trellis.specs.Order.{bit, number, pathOf, sum, zeroFirst, firstBy, before}
 use Rattle.trellis.specs.Keys.{Key, keyOf, keyBefore}
 use Rattle.trellis.proofs.Strict.{Strict, strict-nat, strict-int, strict-flip, strict-on, first-by, strict-first-by}
 
@@ -52,18 +52,23 @@ number-one-path (b ∷ p) [] l e = absurd (omega arith)
 number-one-path (b ∷ p) (c ∷ q) l e = let k = last-digit b c (number p) (number q) e in ap₂ _∷_ (k .0) (number-one-path p q (omega arith) (k .1))
 
 -- and every number is a path's
-pub number-has-a-path : (n x : ℕ) → x < 2 ^ n → (p : Path) × (length p ≡ n) × (number p ≡ x)
-unfolding number
-number-has-a-path zero x l = ([], refl, omega arith)
-number-has-a-path (suc n) x l =
-    let r = number-has-a-path n (x / 2) (omega (arith, pow-suc 2 n)) in
-    let d = digit (x % 2) (omega arith) in
-    (d .0 ∷ r .0, ap suc (r .1), omega (arith, r .2, d .1))
+pub path-length : (n x : ℕ) → length (pathOf n x) ≡ n
+unfolding pathOf
+path-length zero x = refl
+path-length (suc n) x = ap suc (path-length n (x / 2))
+
+pub number-of-path : (n x : ℕ) → x < 2 ^ n → number (pathOf n x) ≡ x
+unfolding number pathOf
+number-of-path zero x l = omega arith
+number-of-path (suc n) x l = omega (arith, number-of-path n (x / 2) (omega (arith, pow-suc 2 n)), digit (x % 2) (omega arith))
   where
-    digit : (k : ℕ) → k < 2 → (b : Bool) × (bit b ≡ k)
-    digit zero l = (false, refl)
-    digit (suc zero) l = (true, refl)
+    digit : (k : ℕ) → k < 2 → bit (eqb k 1) ≡ k
+    digit zero l = refl
+    digit (suc zero) l = refl
     digit (suc (suc k)) l = absurd (omega arith)
+
+pub number-has-a-path : (n x : ℕ) → x < 2 ^ n → (p : Path) × (length p ≡ n) × (number p ≡ x)
+number-has-a-path n x l = (pathOf n x, path-length n x, number-of-path n x l)
 
 -- ---- 0 at the first bit where two paths differ
 

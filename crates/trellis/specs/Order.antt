@@ -1,8 +1,8 @@
 -- 01: the sum of a path and the order of paths. A path is a list of bits, the newest first. Assumes nothing.
 use mathlib.Core.Bool.{Bool, true, false, cond, not, _&&_}
 use mathlib.Core.List.{List, [], _∷_}
-use Prim.Native.Nat.{ℕ, _+_, _*_}
-use lib.Dec.{ltb}
+use Prim.Native.Nat.{ℕ, zero, suc, _+_, _*_, _/_, _%_}
+use lib.Dec.{eqb, ltb}
 use lib.IntN.{ℤ, pos, _+ℤ_}
 use lib.ListN.{length, getD}
 use lib.Signed.{ltZ}
@@ -17,6 +17,11 @@ bit false = 0
 unfoldable pub number : Path → ℕ
 number [] = 0
 number (b ∷ p) = number p * 2 + bit b
+
+-- the path of n bits with a number, the last bit lowest; `number-of-path` says that it is, where no bit is above its length
+unfoldable pub pathOf : ℕ → ℕ → Path
+pathOf zero x = []
+pathOf (suc n) x = eqb (x % 2) 1 ∷ pathOf n (x / 2)
 
 -- 01: "its sum adds its branch values"; the bit after a path p stands at position length p of the soft column
 unfoldable pub sum : Values → List ℕ → Path → ℤ
