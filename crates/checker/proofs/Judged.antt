@@ -1,5 +1,5 @@
 -- The judge on keys, by the numbers of the lines, is the judge of listings. Assumes nothing.
-use mathlib.Core.Bool.{Bool, true, false, cond, not, _&&_, _||_}
+use mathlib.Core.Bool.{Bool, true, false, cond, _&&_, _||_}
 use mathlib.Core.List.{List, [], _∷_, map}
 use mathlib.Core.Logic.{inl, inr}
 use mathlib.Core.Path.{_≡_, refl, sym, ap, ap₂, _∙_}
@@ -20,7 +20,7 @@ use Rattle.paths.proofs.Booleans.{or-false}
 use Rattle.paths.proofs.Prefixes.{same-equal}
 use Rattle.paths.proofs.Invariant.{Invariant, start-invariant, step-invariant}
 use Rattle.paths.proofs.Keys.{grow-keys, start-keys}
-use Rattle.paths.proofs.Listings.{step-leaves}
+use Rattle.paths.proofs.Listings.{no-line-after-the-answer, right-before-the-answer, goes-on-after, names-the-line, ends-accepted, ends-early, step-leaves}
 use Rattle.trellis.specs.Values.{Values, levelValues}
 use Rattle.trellis.specs.Order.{number, sum}
 use Rattle.trellis.specs.Keys.{Key, keyOf, keyNodes}
@@ -33,10 +33,6 @@ use Rattle.checker.specs.Lines.{lineOf, listingOf}
 use Rattle.checker.specs.Judging.{codeVerdict, names, judge-keys, judged-keys}
 use Rattle.checker.specs.declared.Verdict.{Verdict as CodeVerdict}
 use Rattle.checker.proofs.Lines.{Fits, line-names}
-
-and-false : (b : Bool) → (b && false) ≡ false
-and-false true = refl
-and-false false = refl
 
 module _ (t : Tree) (sound : Sound t) (vs : Values) (soft left right-masks : List ℕ) (keys : KeysOf t (keyNodes (t .size) vs soft left right-masks) (keyOf vs soft)) (lengths numbers : List ℕ) where
   abbrev N : Nodes Key
@@ -63,15 +59,23 @@ module _ (t : Tree) (sound : Sound t) (vs : Values) (soft left right-masks : Lis
 
   judge-on-keys : (ls bs : List ℕ) (k : ℕ) → From k ls bs → (taken stack : List Path) → Invariant t taken stack → left-by t taken ≡ stack → length taken ≡ k
       → judge t taken (listingOf (t .size) ls bs) ≡ judges (length ls) k (answered t taken) (map (keyOf vs soft) stack)
-  unfolding judge judge-keys listingOf right is-first names keyOf answered step take-head
-  judge-on-keys [] bs k from taken stack i e c = ap (λ (j : ℕ). cond (answered t taken) accepted (wrong (suc j))) c
+  unfolding judge-keys listingOf is-first names keyOf answered step take-head
+  judge-on-keys [] bs k from taken stack i e c = go (answered t taken) refl
+    where
+      go : (a : Bool) → answered t taken ≡ a → judge t taken [] ≡ cond a accepted (wrong (suc k))
+      go true h = ends-accepted t taken h
+      go false h = ends-early t taken h ∙ ap (λ (j : ℕ). wrong (suc j)) c
   judge-on-keys (len ∷ ls) [] k from taken stack i e c = absurd (omega (arith, from .both))
-  judge-on-keys (len ∷ ls) (b ∷ bs) k from taken [] i e c =
-      ap₂ (λ (r : Bool) (j : ℕ). cond r (judge t (lineOf (t .size) len b ∷ taken) (listingOf (t .size) ls bs)) (wrong (suc j)))
-      (ap (λ (stack : List Path). not (answered t taken) && is-first (lineOf (t .size) len b) stack) e ∙ and-false (not (answered t taken))) c
+  judge-on-keys (len ∷ ls) (b ∷ bs) k from taken [] i e c = names-the-line t taken line (listingOf (t .size) ls bs) (go (answered t taken) refl) ∙ ap (λ (j : ℕ). wrong (suc j)) c
+    where
+      line : Path
+      line = lineOf (t .size) len b
+
+      go : (a : Bool) → answered t taken ≡ a → right t taken line ≡ false
+      go true h = no-line-after-the-answer t taken h line
+      go false h = right-before-the-answer t taken h line ∙ ap (is-first line) e
   judge-on-keys (len ∷ ls) (b ∷ bs) k from taken (q ∷ rest) i e c =
-      ap₂ (λ (stack : List Path) (j : ℕ). cond (not (answered t taken) && is-first line stack) (judge t (line ∷ taken) (listingOf (t .size) ls bs)) (wrong (suc j))) e c
-      ∙ go (answered t taken) refl
+      go (answered t taken) refl
       (judge-on-keys ls bs (suc k) (next k len b ls bs from) (q ∷ taken) (grow (nodes t) q rest) (step-invariant t sound (record { taken = taken; stack = q ∷ rest }) i) (step-leaves t taken rest q e) (ap suc c))
     where
       line : Path
@@ -89,26 +93,30 @@ module _ (t : Tree) (sound : Sound t) (vs : Values) (soft left right-masks : Lis
       goes-on : Verdict
       goes-on = judges (length ls) (suc k) (N .full (keyOf vs soft q)) (grow N (keyOf vs soft q) (map (keyOf vs soft) rest))
 
+      named-wrong : right t taken line ≡ false → judge t taken (line ∷ listingOf (t .size) ls bs) ≡ wrong (suc k)
+      named-wrong r = names-the-line t taken line (listingOf (t .size) ls bs) r ∙ ap (λ (j : ℕ). wrong (suc j)) c
+
       go : (a : Bool) → answered t taken ≡ a
           → judge t (q ∷ taken) (listingOf (t .size) ls bs) ≡ judges (length ls) (suc k) (answered t (q ∷ taken)) (map (keyOf vs soft) (grow (nodes t) q rest))
-          → cond (not a && same line q) (judge t (line ∷ taken) (listingOf (t .size) ls bs)) (wrong (suc k))
-          ≡ cond a (wrong (suc k)) (cond (names lengths numbers k (keyOf vs soft q)) goes-on (wrong (suc k)))
-      go true h ih = refl
+          → judge t taken (line ∷ listingOf (t .size) ls bs) ≡ cond a (wrong (suc k)) (cond (names lengths numbers k (keyOf vs soft q)) goes-on (wrong (suc k)))
+      go true h ih = named-wrong (no-line-after-the-answer t taken h line)
       go false h ih = first (same line q) refl ∙ ap (λ (x : Bool). cond x goes-on (wrong (suc k))) named
         where
+          is-right : right t taken line ≡ same line q
+          is-right = right-before-the-answer t taken h line ∙ ap (is-first line) e
+
           full : answered t (q ∷ taken) ≡ N .full (keyOf vs soft q)
           full = ap (λ (a : Bool). is-full t q || a) h ∙ or-false (is-full t q) ∙ sym (keys .same-full q)
 
-          first : (x : Bool) → same line q ≡ x → cond x (judge t (line ∷ taken) (listingOf (t .size) ls bs)) (wrong (suc k)) ≡ cond x goes-on (wrong (suc k))
+          first : (x : Bool) → same line q ≡ x → judge t taken (line ∷ listingOf (t .size) ls bs) ≡ cond x goes-on (wrong (suc k))
           first true is =
-              ap (λ (p : Path). judge t (p ∷ taken) (listingOf (t .size) ls bs)) (same-equal line q is)
+              goes-on-after t taken line (listingOf (t .size) ls bs) (is-right ∙ is)
+              ∙ ap (λ (p : Path). judge t (p ∷ taken) (listingOf (t .size) ls bs)) (same-equal line q is)
               ∙ ih
               ∙ ap₂ (judges (length ls) (suc k)) full (grow-keys t N (keyOf vs soft) keys sound q rest (i .there q (inr (inl refl))))
-          first false is = refl
+          first false is = named-wrong (is-right ∙ is)
 
-  -- ---- from the first line on
-
-  -- the judge on keys is the judge
+  -- from the first line on
   judged-on-keys : length lengths ≡ length numbers → judged t (listingOf (t .size) lengths numbers) ≡ judged-keys N lengths numbers
   unfolding judged-keys start left-by answered keyOf sum number
   judged-on-keys both =

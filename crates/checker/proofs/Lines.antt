@@ -3,7 +3,7 @@ use mathlib.Core.Bool.{Bool, true, false, cond, _&&_}
 use mathlib.Core.List.{List, [], _∷_, map}
 use mathlib.Core.Logic.{_↔_, inl, inr}
 use mathlib.Core.Path.{_≡_, refl, sym, ap, ap₂, _∙_, subst⁻¹}
-use Prim.Native.Nat.{ℕ, zero, suc, _^_, _≤_, _<_, min}
+use Prim.Native.Nat.{ℕ, zero, suc, _^_, _≤_, _<_, suc-le-suc, min}
 use native.Mathlib.Omega.{arith}
 use lib.Dec.{eqb, leb, ltb}
 use lib.ListN.{length, take, length-take}
@@ -50,6 +50,12 @@ module _ (n len bits : ℕ) (q : Path) (fits : Fits n q) where
       (λ e. let r = and-both (eqb len (length q)) _ e in equal-same (lineOf n len bits) q (is-line (eqb-true _ _ (r .0)) (eqb-true _ _ (r .1))))
 
 -- ---- a listing
+
+pub listing-length : (n : ℕ) (lengths bits : List ℕ) → length (listingOf n lengths bits) ≤ length lengths
+unfolding listingOf
+listing-length n [] bits = omega arith
+listing-length n (len ∷ lengths) [] = omega arith
+listing-length n (len ∷ lengths) (b ∷ bits) = suc-le-suc (listing-length n lengths bits)
 
 listing-take : (n k : ℕ) (lengths bits : List ℕ) → take k (listingOf n lengths bits) ≡ listingOf n (take k lengths) (take k bits)
 unfolding listingOf

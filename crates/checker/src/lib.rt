@@ -60,8 +60,9 @@ pub fn judge(
     let mut b: u64 = 0;
     let mut k: usize = 0;
     while k < lengths.len() {
+        let line = k as u64 + 1;
         if l == n {
-            return Verdict::Wrong(k as u64 + 1);
+            return Verdict::Wrong(line);
         }
         let t = extension::advance(
             &mut *sums,
@@ -82,7 +83,7 @@ pub fn judge(
         l = t.len;
         b = t.bits;
         if !names(lengths[k], numbers[k], l, b) {
-            return Verdict::Wrong(k as u64 + 1);
+            return Verdict::Wrong(line);
         }
         k += 1;
     }

@@ -1,5 +1,5 @@
 -- The judge of listings accepts exactly the sequence of paths that the search takes, and names the first line that differs from it. Assumes nothing.
-use mathlib.Core.Bool.{Bool, true, false, cond, not, _&&_}
+use mathlib.Core.Bool.{Bool, true, false, cond}
 use mathlib.Core.List.{List, [], _∷_, _++_, append-nil, append-assoc, reverse, reverse-cons}
 use mathlib.Core.Logic.{_↔_, _⊎_, inl, inr}
 use mathlib.Core.Path.{_≡_, refl, sym, ap, ap₂, _∙_, subst, subst⁻¹}
@@ -77,8 +77,11 @@ difference-is-wrong (suc j) k (p ∷ lines) (q ∷ others) e d =
 abbrev NamedAt : ℕ → ℕ → List Path → List Path → Type 0
 NamedAt k l lines others = (j : ℕ) × (l ≡ k + j) × (take j lines ≡ take j others) × (take (suc j) lines ≡ take (suc j) others → ⊥)
 
+same-line : {k l : ℕ} → wrong k ≡ wrong l → k ≡ l
+same-line e = cc e
+
 wrong-number : (k l : ℕ) → wrong k ≡ wrong l → l ≡ k + 0
-wrong-number k l e = let same : k ≡ l = cc e in omega arith
+wrong-number k l e = omega (arith, same-line e)
 
 wrong-is-difference : (k l : ℕ) (lines others : List Path) → compared k lines others ≡ wrong l → NamedAt k l lines others
 unfolding compared
@@ -94,6 +97,36 @@ wrong-is-difference k l (p ∷ lines) (q ∷ others) e = go (same p q) refl e (w
         let one = same-equal p q s in
         (suc (n .0), omega (arith, n .1), ap₂ _∷_ one (n .2), λ m. n .3 (heads p q (take (suc (n .0)) lines) (take (suc (n .0)) others) m .1))
     go false s h ih = (0, wrong-number k l h, refl, λ m. not-both (same p q) s (equal-same p q (heads p q [] [] m .0)))
+
+-- ---- a line after others
+
+module _ (t : Tree) (earlier : List Path) where
+  pub no-line-after-the-answer : answered t earlier ≡ true → (p : Path) → right t earlier p ≡ false
+  unfolding right
+  no-line-after-the-answer e p = rw e refl
+
+  pub right-before-the-answer : answered t earlier ≡ false → (p : Path) → right t earlier p ≡ is-first p (left-by t earlier)
+  unfolding right
+  right-before-the-answer e p = rw e refl
+
+  -- after a right line the judge goes on, and it names a wrong one
+  module _ (p : Path) (lines : List Path) where
+    pub goes-on-after : right t earlier p ≡ true → judge t earlier (p ∷ lines) ≡ judge t (p ∷ earlier) lines
+    unfolding judge
+    goes-on-after e = rw e refl
+
+    pub names-the-line : right t earlier p ≡ false → judge t earlier (p ∷ lines) ≡ wrong (suc (length earlier))
+    unfolding judge
+    names-the-line e = rw e refl
+
+  -- after the last line it accepts, or names the line after it
+  pub ends-accepted : answered t earlier ≡ true → judge t earlier [] ≡ accepted
+  unfolding judge
+  ends-accepted e = rw e refl
+
+  pub ends-early : answered t earlier ≡ false → judge t earlier [] ≡ wrong (suc (length earlier))
+  unfolding judge
+  ends-early e = rw e refl
 
 -- ---- the stack that lines leave
 
@@ -205,27 +238,28 @@ module _ (t : Tree) where
 
     -- before the answer a line is right if it is the path that the search takes next
     right-is : (k : ℕ) → k < n → (p : Path) → right t (after t k .taken) p ≡ same p (first (after t k))
-    unfolding right is-first
+    unfolding is-first
     right-is k l p =
         let h = some-head k l in
-        ap₂ (λ (b : Bool) (stack : List Path). not b && is-first p stack) (not-answered k l) (taken-leave-the-stack k ∙ h .2) ∙ ap (λ (stack : List Path). same p (head stack)) (sym (h .2))
+        right-before-the-answer t (after t k .taken) (not-answered k l) p ∙ ap (is-first p) (taken-leave-the-stack k ∙ h .2) ∙ ap (λ (stack : List Path). same p (head stack)) (sym (h .2))
+
+    next-line : (k : ℕ) → k ≤ n → wrong (suc (length (after t k .taken))) ≡ wrong (suc k)
+    next-line k l = ap (λ (j : ℕ). wrong (suc j)) (counts k l)
 
     judge-compares : (m k : ℕ) → k + m ≡ n → (lines : List Path) → judge t (after t k .taken) lines ≡ compared (suc k) lines (coming m k)
-    unfolding judge compared coming right
-    judge-compares zero k e [] = ap (λ (b : Bool). cond b accepted (wrong (suc (count (after t k))))) (answered-at k (omega (arith, e)))
+    unfolding compared coming
+    judge-compares zero k e [] = ends-accepted t (after t k .taken) (answered-at k (omega (arith, e)))
     judge-compares zero k e (p ∷ lines) =
-        ap₂ (λ (b : Bool) (j : ℕ). cond (not b && is-first p (left-by t (after t k .taken))) (judge t (p ∷ after t k .taken) lines) (wrong (suc j))) (answered-at k (omega (arith, e))) (counts k (omega (arith, e)))
-    judge-compares (suc m) k e [] = ap₂ (λ (b : Bool) (j : ℕ). cond b accepted (wrong (suc j))) (not-answered k (omega (arith, e))) (counts k (omega (arith, e)))
-    judge-compares (suc m) k e (p ∷ lines) =
-        ap₂ (λ (b : Bool) (j : ℕ). cond b (judge t (p ∷ after t k .taken) lines) (wrong (suc j))) (right-is k (omega (arith, e)) p) (counts k (omega (arith, e)))
-        ∙ go (same p (first (after t k))) refl (judge-compares m (suc k) (omega (arith, e)) lines)
+        names-the-line t (after t k .taken) p lines (no-line-after-the-answer t (after t k .taken) (answered-at k (omega (arith, e))) p) ∙ next-line k (omega (arith, e))
+    judge-compares (suc m) k e [] = ends-early t (after t k .taken) (not-answered k (omega (arith, e))) ∙ next-line k (omega (arith, e))
+    judge-compares (suc m) k e (p ∷ lines) = go (same p (first (after t k))) refl (judge-compares m (suc k) (omega (arith, e)) lines)
       where
         go : (b : Bool) → same p (first (after t k)) ≡ b → judge t (after t (suc k) .taken) lines ≡ compared (suc (suc k)) lines (coming m (suc k))
-            → cond b (judge t (p ∷ after t k .taken) lines) (wrong (suc k)) ≡ cond b (compared (suc (suc k)) lines (coming m (suc k))) (wrong (suc k))
+            → judge t (after t k .taken) (p ∷ lines) ≡ cond b (compared (suc (suc k)) lines (coming m (suc k))) (wrong (suc k))
         go true s ih =
             let one : p ∷ after t k .taken ≡ after t (suc k) .taken = ap (λ (q : Path). q ∷ after t k .taken) (same-equal p (first (after t k)) s) ∙ sym (next-taken k (omega (arith, e))) in
-            ap (λ (earlier : List Path). judge t earlier lines) one ∙ ih
-        go false s ih = refl
+            goes-on-after t (after t k .taken) p lines (right-is k (omega (arith, e)) p ∙ s) ∙ ap (λ (earlier : List Path). judge t earlier lines) one ∙ ih
+        go false s ih = names-the-line t (after t k .taken) p lines (right-is k (omega (arith, e)) p ∙ s) ∙ next-line k (omega (arith, e))
 
     judged-compares : (lines : List Path) → judged t lines ≡ compared 1 lines (coming n 0)
     unfolding start
@@ -322,19 +356,18 @@ module _ (t : Tree) (sound : Sound t) where
 
 -- a line that is named is one of the listing, or the one after its last
 named-after : (t : Tree) (earlier lines : List Path) (k : ℕ) → judge t earlier lines ≡ wrong k → (length earlier < k) × (k ≤ length earlier + length lines + 1)
-unfolding judge
-named-after t earlier [] k e = go (answered t earlier) e
+named-after t earlier [] k e = go (answered t earlier) refl
   where
-    go : (b : Bool) → cond b accepted (wrong (suc (length earlier))) ≡ wrong k → (length earlier < k) × (k ≤ length earlier + 0 + 1)
-    go true h = accepted-is-not-wrong k h
-    go false h = let line : suc (length earlier) ≡ k = cc h in (omega arith, omega arith)
-named-after t earlier (p ∷ lines) k e = go (right t earlier p) e (named-after t (p ∷ earlier) lines k)
+    go : (b : Bool) → answered t earlier ≡ b → (length earlier < k) × (k ≤ length earlier + 0 + 1)
+    go true h = accepted-is-not-wrong k (sym (ends-accepted t earlier h) ∙ e)
+    go false h = let line : suc (length earlier) ≡ k = same-line (sym (ends-early t earlier h) ∙ e) in (omega arith, omega arith)
+named-after t earlier (p ∷ lines) k e = go (right t earlier p) refl (named-after t (p ∷ earlier) lines k)
   where
-    go : (b : Bool) → cond b (judge t (p ∷ earlier) lines) (wrong (suc (length earlier))) ≡ wrong k
+    go : (b : Bool) → right t earlier p ≡ b
         → (judge t (p ∷ earlier) lines ≡ wrong k → (suc (length earlier) < k) × (k ≤ suc (length earlier) + length lines + 1))
         → (length earlier < k) × (k ≤ length earlier + suc (length lines) + 1)
-    go true h ih = let r = ih h in (omega (arith, r .0), omega (arith, r .1))
-    go false h ih = let line : suc (length earlier) ≡ k = cc h in (omega arith, omega arith)
+    go true h ih = let r = ih (sym (goes-on-after t earlier p lines h) ∙ e) in (omega (arith, r .0), omega (arith, r .1))
+    go false h ih = let line : suc (length earlier) ≡ k = same-line (sym (names-the-line t earlier p lines h) ∙ e) in (omega arith, omega arith)
 
 pub named-line : (t : Tree) (lines : List Path) (k : ℕ) → judged t lines ≡ wrong k → (1 ≤ k) × (k ≤ length lines + 1)
 named-line t lines k e = let r = named-after t [] lines k e in (r .0, omega (arith, r .1))

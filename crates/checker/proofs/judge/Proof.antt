@@ -48,8 +48,8 @@ loop-holds c =
     let a = c .before .before .before .before .before in
     (a .pre .1 .1, judging-start (a .args .n) (a .args .values .now) (a .args .col .now) (a .args .left .now) (a .args .right .now) (a .args .lengths .now) (a .args .numbers .now) (a .pre .1 .0 .some) _)
 
-add-t20 : tie.Need-add-t20 Inv-loop μ-loop
-add-t20 c = omega (arith, some-line (c .before))
+add-line : tie.Need-add-line Inv-loop μ-loop
+add-line c = omega (arith, some-line c)
 
 returns : tie.Need-returns Inv-loop μ-loop
 unfolding codeVerdict
@@ -85,9 +85,6 @@ shared-slice-read-names-2 c =
 
 names-requires : tie.Need-names-requires Inv-loop μ-loop
 names-requires c κs = search needs
-
-add-t31 : tie.Need-add-t31 Inv-loop μ-loop
-add-t31 c = omega (arith, some-line (turn (c .before .before .before .before)))
 
 returns-2 : tie.Need-returns-2 Inv-loop μ-loop
 unfolding codeVerdict
@@ -129,8 +126,8 @@ returns-3 c =
           (ap codeVerdict (sym (all-are-right (a .args .n) (a .args .values .now) (a .args .col .now) (a .args .left .now) (a .args .right .now) (a .args .lengths .now) (a .args .numbers .now) _ _ _ _ (v .loop .inv .1) (c .before .loop-test .left) (c .if3 .taken)))),
     )
 
-add-t34 : tie.Need-add-t34 Inv-loop μ-loop
-add-t34 c =
+add-t31 : tie.Need-add-t31 Inv-loop μ-loop
+add-t31 c =
     let v = c .before .before in
     omega (arith, v .loop .inv .1 .within, start v .pre .0 .few)
 
@@ -151,7 +148,7 @@ judge-spec =
     Inv-loop
     μ-loop
     loop-holds
-    add-t20
+    add-line
     returns
     advance-requires
     mul-names
@@ -159,11 +156,10 @@ judge-spec =
     mul-names-2
     shared-slice-read-names-2
     names-requires
-    add-t31
     returns-2
     add-k
     loop-less
     loop-again
     returns-3
-    add-t34
+    add-t31
     returns-4)
