@@ -1,14 +1,16 @@
 -- `checker::judge` meets its contract. The loop's invariant: so many lines are right, and the judge of the specification goes on from there. Assumes nothing.
 use Prim.Native.Nat.{_-_, _<_}
 use lib.ListN.{length}
-use mathlib.Core.Path.{sym, ap, _∙_}
+use mathlib.Core.Path.{_≡_, sym, ap, _∙_}
 use mir.Syntax.{w16}
 use mir.Val.{toZ, ofZ}
-use Rattle.trellis.specs.Keys.{key}
+use Rattle.paths.specs.Listings.{Verdict}
+use Rattle.trellis.specs.Values.{Values}
+use Rattle.trellis.specs.Keys.{key, keyNodes}
 use Rattle.stack.specs.Places.{at, Room}
-use Rattle.extension.specs.Steps.{tableNodes, Advanced}
+use Rattle.extension.specs.Steps.{TableOf, tableNodes, Advanced}
 use Rattle.extension.proofs.Advances.{advanced-at}
-use Rattle.checker.specs.Judging.{codeVerdict}
+use Rattle.checker.specs.Judging.{codeVerdict, judged-keys}
 use Rattle.checker.proofs.Loop.{Judging, judging-start, follows-the-answer, all-are-right, stops-early, wrong-line, right-line, contract}
 use native.Mathlib.Omega.{arith}
 use borrow.Author.Needs.{needs}
@@ -43,6 +45,15 @@ advanced st = advanced-at _ _ _ _ _ _ _ _ _ _ (record { sfits = st .struct-told 
 some-line : (i : tie.In-loop Inv-loop μ-loop) → i .before .loop .k < 2000
 some-line i = omega (arith, i .loop-test .taken, start (i .before) .pre .0 .few)
 
+-- what the contract says of a verdict that the judge on keys gives
+told : (v : tie.At-loop Inv-loop μ-loop) (w : Verdict)
+    → (let a = start v in judged-keys (tableNodes (a .args .n) (a .args .values .now) (a .args .col .now) (a .args .left .now) (a .args .right .now)) (a .args .lengths .now) (a .args .numbers .now) ≡ w
+    → (vs : Values) → TableOf vs (a .args .values .now)
+    → codeVerdict w ≡ codeVerdict (judged-keys (keyNodes (a .args .n) vs (a .args .col .now) (a .args .left .now) (a .args .right .now)) (a .args .lengths .now) (a .args .numbers .now)))
+told v w e vs tb =
+    let a = start v in
+    contract (a .args .n) (a .args .values .now) (a .args .col .now) (a .args .left .now) (a .args .right .now) (a .args .lengths .now) (a .args .numbers .now) vs (a .pre .1 .0) tb _ (ap codeVerdict (sym e))
+
 loop-holds : tie.Need-loop-holds Inv-loop μ-loop
 loop-holds c =
     let a = c .before .before .before .before .before in
@@ -58,8 +69,7 @@ returns c =
     let v = i .before in
     let a = start v in (
       v .loop .inv .0,
-      λ vs tb. contract (a .args .n) (a .args .values .now) (a .args .col .now) (a .args .left .now) (a .args .right .now) (a .args .lengths .now) (a .args .numbers .now) vs (a .pre .1 .0) tb _
-          (ap codeVerdict (sym (follows-the-answer (a .args .n) (a .args .values .now) (a .args .col .now) (a .args .left .now) (a .args .right .now) (a .args .lengths .now) (a .args .numbers .now) _ _ _ _ (v .loop .inv .1) (i .loop-test .taken) (c .if1 .taken)))),
+      told v _ (follows-the-answer (a .args .n) (a .args .values .now) (a .args .col .now) (a .args .left .now) (a .args .right .now) (a .args .lengths .now) (a .args .numbers .now) _ _ _ _ (v .loop .inv .1) (i .loop-test .taken) (c .if1 .taken)),
     )
 
 advance-requires : tie.Need-advance-requires Inv-loop μ-loop
@@ -95,8 +105,7 @@ returns-2 c =
     let v = i .before in
     let a = start v in (
       st .before .advance .ensures .0,
-      λ vs tb. contract (a .args .n) (a .args .values .now) (a .args .col .now) (a .args .left .now) (a .args .right .now) (a .args .lengths .now) (a .args .numbers .now) vs (a .pre .1 .0) tb _
-          (ap codeVerdict (sym (wrong-line (a .args .n) (a .args .values .now) (a .args .col .now) (a .args .left .now) (a .args .right .now) (a .args .lengths .now) (a .args .numbers .now) _ _ _ _ (v .loop .inv .1) _ _ _ (i .loop-test .taken) (st .before .before .before .before .before .if1 .left) (advanced st) (sym (asked .names .ensures) ∙ not-true _ (c .if2 .taken))))),
+      told v _ (wrong-line (a .args .n) (a .args .values .now) (a .args .col .now) (a .args .left .now) (a .args .right .now) (a .args .lengths .now) (a .args .numbers .now) _ _ _ _ (v .loop .inv .1) _ _ _ (i .loop-test .taken) (st .before .before .before .before .before .if1 .left) (advanced st) (sym (asked .names .ensures) ∙ not-true _ (c .if2 .taken))),
     )
 
 add-k : tie.Need-add-k Inv-loop μ-loop
@@ -122,8 +131,7 @@ returns-3 c =
     let v = c .before .before in
     let a = start v in (
       v .loop .inv .0,
-      λ vs tb. contract (a .args .n) (a .args .values .now) (a .args .col .now) (a .args .left .now) (a .args .right .now) (a .args .lengths .now) (a .args .numbers .now) vs (a .pre .1 .0) tb _
-          (ap codeVerdict (sym (all-are-right (a .args .n) (a .args .values .now) (a .args .col .now) (a .args .left .now) (a .args .right .now) (a .args .lengths .now) (a .args .numbers .now) _ _ _ _ (v .loop .inv .1) (c .before .loop-test .left) (c .if3 .taken)))),
+      told v _ (all-are-right (a .args .n) (a .args .values .now) (a .args .col .now) (a .args .left .now) (a .args .right .now) (a .args .lengths .now) (a .args .numbers .now) _ _ _ _ (v .loop .inv .1) (c .before .loop-test .left) (c .if3 .taken)),
     )
 
 add-t31 : tie.Need-add-t31 Inv-loop μ-loop
@@ -137,8 +145,7 @@ returns-4 c =
     let v = c .before .before in
     let a = start v in (
       v .loop .inv .0,
-      λ vs tb. contract (a .args .n) (a .args .values .now) (a .args .col .now) (a .args .left .now) (a .args .right .now) (a .args .lengths .now) (a .args .numbers .now) vs (a .pre .1 .0) tb _
-          (ap codeVerdict (sym (stops-early (a .args .n) (a .args .values .now) (a .args .col .now) (a .args .left .now) (a .args .right .now) (a .args .lengths .now) (a .args .numbers .now) _ _ _ _ (v .loop .inv .1) (c .before .loop-test .left) (c .if3 .left)))),
+      told v _ (stops-early (a .args .n) (a .args .values .now) (a .args .col .now) (a .args .left .now) (a .args .right .now) (a .args .lengths .now) (a .args .numbers .now) _ _ _ _ (v .loop .inv .1) (c .before .loop-test .left) (c .if3 .left)),
     )
 
 pub judge-spec : {M : Type 1} → statement M
