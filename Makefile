@@ -9,11 +9,12 @@ define prove
 endef
 
 test: tools listed
-	$(call prove,store_columns store_searches store_batches store_rows store_pages store_dumps store_chip store_held listing)
+	$(call prove,store_columns store_searches store_batches store_rows store_pages store_dumps store_chip store_held store_listings listing)
 	@tests/run-vectors tests/vectors tests/libfec tests/known
 	@tests/run-batch
 	@tests/run-chip
 	@tests/run-held
+	@tests/run-checker
 	@tests/run-station
 	@tests/run-readpage
 	@tests/run-documents

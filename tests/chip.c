@@ -23,7 +23,7 @@ static unsigned long seen[LEVELS][EMPTY + 1][2];
 static modelled searched(const char *what, const uint8_t *soft, uint64_t level, uint64_t limit) {
     uint8_t kept[BITS];
     memcpy(kept, soft, BITS);
-    const modelled m = model(PLACES, soft, level, limit);
+    const modelled m = model(SUPERCODE, PLACES, soft, level, limit);
     const chip_found c = entry_search_chip(soft, BITS, level, limit);
     check(same(c, m.told) && !memcmp(kept, soft, BITS), what);
     check(c.pushed ? c.pushed == 1 && c.count > 62 : same(c, by_supercode(soft, level, limit)), what);
@@ -48,7 +48,7 @@ static void columns(void) {
             searched("columns, a small limit", soft, level, 1 + below(300));
             searched("columns, any limit", soft, level, 1 + below(LARGEST));
             /* with places for all, the model is the supercode search */
-            if (n % 4 == 0) check(same(model(UNBOUNDED, soft, level, LARGEST).told, by_supercode(soft, level, LARGEST)), "columns, the model without a bound");
+            if (n % 4 == 0) check(same(model(SUPERCODE, UNBOUNDED, soft, level, LARGEST).told, by_supercode(soft, level, LARGEST)), "columns, the model without a bound");
         }
         check(seen[level][0][0] && seen[level][0][1] && seen[level][SPENT][0] && seen[level][SPENT][1] && !seen[level][EMPTY][0] && !seen[level][EMPTY][1] == !level, "columns, what occurred");
     }
@@ -67,7 +67,7 @@ static void borders_of_13(uint64_t level) {
     modelled m = {.first_push = 0};
     for (int n = 0; n < TRIES && m.told.number != EMPTY; n++) {
         fill_column(soft, level, n % KINDS);
-        m = model(PLACES, soft, level, LARGEST);
+        m = model(SUPERCODE, PLACES, soft, level, LARGEST);
     }
     check(m.told.number == EMPTY, "a stack that gets empty");
     if (m.told.number != EMPTY) return;
@@ -86,7 +86,7 @@ static void borders_of_the_flag(uint64_t level) {
         modelled m = {.first_push = 0};
         for (int n = 0; n < TRIES && m.first_push < 2; n++) {
             fill_column(soft, level, kind);
-            m = model(PLACES, soft, level, LARGEST);
+            m = model(SUPERCODE, PLACES, soft, level, LARGEST);
         }
         if (m.first_push < 2) {
             check(kind != RANDOM, "a path that is pushed out");
@@ -173,7 +173,7 @@ static modelled_page page_model(const uint8_t *soft, uint64_t limit, uint8_t *da
     for (uint64_t i = 0; i < LEVELS; i++) {
         uint8_t row[ROW], marks[ROW], *const corrected = symbols + ROW * i;
         for (int j = 0; j < ROW; j++) {
-            const chip_found f = model(PLACES, column[j], i, limit).told;
+            const chip_found f = model(SUPERCODE, PLACES, column[j], i, limit).told;
             m.told.page.steps += f.count;
             m.flag[i] |= f.pushed;
             m.emptied += f.number == EMPTY;
@@ -281,7 +281,7 @@ static void at_levels(const uint8_t *soft, const uint8_t *symbols, int j, uint64
     uint8_t column[BITS];
     memcpy(column, soft + BITS * j, BITS);
     for (uint64_t i = 0; i < LEVELS; i++) {
-        told[i] = model(PLACES, column, i, limit).told;
+        told[i] = model(SUPERCODE, PLACES, column, i, limit).told;
         take_off(column, i, symbols[ROW * i + (unsigned)j]);
     }
 }
@@ -366,7 +366,7 @@ static void page_questions(void) {
 }
 
 int main(void) {
-    check(times(0x43, 0x57) == supercodes[2][0] && times(0x67, 0x49) == supercodes[3][1], "the products of the factors");
+    products_right();
     column_questions();
     columns();
     for (uint64_t level = 0; level < LEVELS; level++) {

@@ -1,6 +1,7 @@
-/* The test entries of crates/entries, crates/chip_entries and crates/held_entries, as the archives made by `rt staticlib` have them. */
+/* The test entries of crates/entries, crates/chip_entries, crates/held_entries and crates/listing_entries, as the archives made by `rt staticlib` have them. */
 #ifndef ENTRIES_H
 #define ENTRIES_H
+#include <stdbool.h>
 #include <stddef.h>
 #include <stdint.h>
 
@@ -30,6 +31,9 @@ typedef struct { held_search names[4]; } held_store;
 /* What a call on a store tells, and the store. */
 typedef struct { found found; held_store store; } held_found;
 
+/* What the checker of listings tells: where number is 0 the first wrong line, counted from 1; 0: it is accepted. */
+typedef struct { uint64_t number, place, line; } listing_told;
+
 /* A part of the caller's own bytes. */
 typedef struct { const uint8_t *bytes; size_t count; } part;
 
@@ -44,6 +48,7 @@ chip_found entry_search_chip(const uint8_t *soft, size_t count, uint64_t level, 
 held_store entry_empty_store(void);
 held_found entry_hold_search(held_store store, uint64_t name, const uint8_t *soft, size_t count, uint64_t level, uint64_t limit);
 held_found entry_take_up(held_store store, uint64_t name, uint64_t limit);
+listing_told entry_check_listing(const uint8_t *soft, size_t count, uint64_t level, bool in_supercodes, const uint64_t *lengths, size_t lines, const uint64_t *bits, size_t lines_of_bits);
 filled entry_encode_row(uint64_t level, const uint8_t *data, size_t count, uint8_t *out, size_t room);
 filled entry_decode_row(uint64_t level, const uint8_t *symbols, size_t count, const uint8_t *marks, size_t marked, uint8_t *out, size_t room);
 filled entry_encode_page(const uint8_t *data, size_t count, uint8_t *out, size_t room);

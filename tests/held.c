@@ -42,7 +42,7 @@ static found refusal(uint64_t number, uint64_t place) { return (found){.number =
 
 /* One supercode search from the start, by the model. */
 static found one_search(const uint8_t *soft, uint64_t level, uint64_t limit) {
-    const chip_found f = model(UNBOUNDED, soft, level, limit).told;
+    const chip_found f = model(SUPERCODE, UNBOUNDED, soft, level, limit).told;
     return f.number ? refusal(f.number, 0) : (found){.word = f.word, .count = f.count, .low = f.low};
 }
 
@@ -84,7 +84,7 @@ static int same_paths(const stack *a, const stack *b) { return a->count == b->co
 static int stopped_there(const held_search *h) {
     if (h->paths > h->limit || !h->len || h->len >= BITS || h->level >= LEVELS) return 0;
     stack *s = paths_of(h);
-    extend(s, (path){h->sum, h->len, (uint32_t)h->last}, h->column, h->level);
+    extend(s, (path){h->sum, h->len, (uint32_t)h->last}, SUPERCODE, h->column, h->level);
     return same_paths(s, &left);
 }
 
@@ -574,7 +574,7 @@ static void altered(void) {
 }
 
 int main(void) {
-    check(times(0x43, 0x57) == supercodes[2][0] && times(0x67, 0x49) == supercodes[3][1], "the products of the factors");
+    products_right();
     start();
     check(take("the empty store", 0, 1).number == NOTHING, "the empty store");
     stories();

@@ -1,4 +1,4 @@
-/* What tests/chip.c and tests/held.c share: a plain model of the supercode search with so many places on its stack, columns of several kinds, and the count of checks. */
+/* What tests/chip.c, tests/held.c, tests/checker.c and bench/listings.c share: a plain model of the searches with so many places on their stack, columns of several kinds, and the count of checks. */
 #ifndef MODEL_H
 #define MODEL_H
 #include "entries.h"
@@ -23,7 +23,7 @@ static uint8_t drawn(void) {
     return (uint8_t)((state = state * 6364136223846793005u + 1442695040888963407u) >> 56);
 }
 
-static unsigned below(unsigned n) { return ((unsigned)drawn() << 16 | (unsigned)drawn() << 8 | drawn()) % n; }
+static inline unsigned below(unsigned n) { return ((unsigned)drawn() << 16 | (unsigned)drawn() << 8 | drawn()) % n; }
 
 /* --- the model: a stack of so many places in the order, the first at 0 --- */
 
@@ -41,13 +41,23 @@ static int value_of(uint64_t level, int bit, int soft) {
     return (bit == reads ? agree : disagree)[doubt] + 2 * (int)level;
 }
 
-/* The products of factors whose multiples are the words of a level's supercodes; level 0 has its code alone. */
-static const uint32_t supercodes[LEVELS][2] = {{0x43, 1}, {0x43, 0x57}, {0x1539, 0x67}, {0x1539, 0x1a9f}};
+/* The two searches of a level by their codes: the products of factors whose multiples are the words of its supercodes, level 0 having its code alone, or of its code. */
+enum { SUPERCODE, WHOLE, SEARCHES };
+static const uint32_t codes[SEARCHES][LEVELS][2] = {
+    {{0x43, 1}, {0x43, 0x57}, {0x1539, 0x67}, {0x1539, 0x1a9f}},
+    {{0x43, 1}, {0x1539, 1}, {0x782cf, 1}, {0x1db2777, 1}},
+};
 
 static inline uint32_t times(uint32_t a, uint32_t b) {
     uint32_t product = 0;
     for (int k = 0; k < 16; k++) if (b >> k & 1) product ^= a << k;
     return product;
+}
+
+static inline void products_right(void) {
+    int right = times(0x43, 0x57) == codes[SUPERCODE][2][0] && times(0x67, 0x49) == codes[SUPERCODE][3][1];
+    for (int i = 0; i < LEVELS; i++) right &= times(codes[SUPERCODE][i][0], codes[SUPERCODE][i][1]) == codes[WHOLE][i][0] && codes[WHOLE][i][1] == 1;
+    check(right, "the products of the factors");
 }
 
 /* Whether some bits after the path make it a multiple of g: what zeros after it leave over has to fit into their places. */
@@ -77,11 +87,12 @@ static int put_in(stack *s, path p) {
     return 1;
 }
 
-static int extend(stack *s, path p, const uint8_t *soft, uint64_t level) {
+static int extend(stack *s, path p, int search, const uint8_t *soft, uint64_t level) {
+    const uint32_t *const code = codes[search][level];
     int pushed = 0;
     for (int bit = 0; bit < 2; bit++) {
         const path longer = {p.sum + value_of(level, bit, soft[p.length]), p.length + 1, p.bits << 1 | (uint32_t)bit};
-        if (begins_word(longer, supercodes[level][0]) && begins_word(longer, supercodes[level][1])) pushed |= put_in(s, longer);
+        if (begins_word(longer, code[0]) && begins_word(longer, code[1])) pushed |= put_in(s, longer);
     }
     return pushed;
 }
@@ -102,11 +113,14 @@ typedef struct { chip_found told; uint64_t first_push; } modelled;
 /* The stack that the last search left: of a spent one with the extensions of the path taken last. */
 static stack left;
 
-static modelled model(int places, const uint8_t *soft, uint64_t level, uint64_t limit) {
+/* The paths that the last search took. */
+static path paths_taken[LARGEST];
+
+static modelled model(int search, int places, const uint8_t *soft, uint64_t level, uint64_t limit) {
     modelled m = {.first_push = 0};
     left.count = 0;
     left.places = places;
-    extend(&left, (path){0, 0, 0}, soft, level);
+    extend(&left, (path){0, 0, 0}, search, soft, level);
     while (m.told.count < limit) {
         if (!left.count) {
             m.told.number = EMPTY;
@@ -114,13 +128,13 @@ static modelled model(int places, const uint8_t *soft, uint64_t level, uint64_t 
         }
         const path p = left.at[0];
         memmove(left.at, left.at + 1, (size_t)--left.count * sizeof(path));
-        m.told.count++;
+        paths_taken[m.told.count++] = p;
         if (p.length == BITS) {
             m.told.word = p.bits;
             m.told.low = low_point(soft, level, p.bits);
             return m;
         }
-        if (!extend(&left, p, soft, level) || m.told.pushed) continue;
+        if (!extend(&left, p, search, soft, level) || m.told.pushed) continue;
         m.told.pushed = 1;
         m.first_push = m.told.count;
     }
@@ -128,12 +142,27 @@ static modelled model(int places, const uint8_t *soft, uint64_t level, uint64_t 
     return m;
 }
 
+/* A listing: the lengths and the bits of so many lines; and whether the last is the answer of its search. */
+enum { ROOM = LARGEST + 1 };
+typedef struct { size_t count; int ends; uint64_t lengths[ROOM], bits[ROOM]; } listing;
+
+/* The paths that the search takes on a column, or the first 2,000. */
+static inline void list_paths(int search, const uint8_t *soft, uint64_t level, listing *out) {
+    const chip_found f = model(search, UNBOUNDED, soft, level, LARGEST).told;
+    out->count = f.count;
+    out->ends = !f.number;
+    for (size_t k = 0; k < out->count; k++) {
+        out->lengths[k] = (uint64_t)paths_taken[k].length;
+        out->bits[k] = paths_taken[k].bits;
+    }
+}
+
 /* --- columns --- */
 
 enum { KINDS = 8, RANDOM = 3 };
 
 /* A word of the level, read surely, rightly but weakly, or with some bits misread, weakly or surely; random values; and random ones of two that are the least sure, the surest, or between. */
-static void fill_column(uint8_t *column, uint64_t level, int kind) {
+static inline void fill_column(uint8_t *column, uint64_t level, int kind) {
     uint64_t word = 0;
     for (uint64_t i = level; i < LEVELS; i++) word ^= entry_level_word(i, drawn() >> 2).value;
     for (int k = 0; k < BITS; k++) {

@@ -8,7 +8,7 @@
 #include <stdlib.h>
 #include <string.h>
 
-enum { LINE = 8192, FIELDS = 32, BITS = 30, ROW = 63, SOFT = 1890, DUMP = 2048, DATA = 150, WRITTEN = 252, SYMBOLS = 252 };
+enum { LINE = 32768, FIELDS = 2048, BITS = 30, ROW = 63, SOFT = 1890, DUMP = 2048, DATA = 150, WRITTEN = 252, SYMBOLS = 252 };
 
 typedef struct { char *field[FIELDS]; int count; } record;
 typedef struct { unsigned long checked, differ, left; } tally;
@@ -231,6 +231,36 @@ static verdict held_line(const record *r) {
     const int column_kept = f.number != 9 || name > 3 || !memcmp(h.store.names[name].column, soft, BITS);
     story_store = h.store;
     return same_found(f, told) && holds_so(&story_store, r->field + given + 6) && column_kept ? SAME : DIFFERS;
+}
+
+/* listing.txt: lines `LEN:BITS` from the fifth field on. An accepted listing has as many lines as the search takes, and its last is the word; without the wrong line and all after it a listing is wrong
+   at the same line, or accepted where that line followed the answer. */
+static verdict listing_line(const record *r) {
+    static uint64_t lengths[FIELDS], bits[FIELDS];
+    uint8_t soft[BITS];
+    enum { HEAD = 5 };
+    if (strcmp(r->field[0], "listing") || r->count <= HEAD || r->count == FIELDS || strlen(r->field[1]) != BITS) return DIFFERS;
+    for (size_t i = 0; i < BITS; i++) soft[i] = (uint8_t)(r->field[1][i] - '0');
+    const uint64_t level = decimal(r->field[2]), wrong = decimal(r->field[4]);
+    const way w = without_list(r->field[3]);
+    const size_t n = (size_t)(r->count - HEAD);
+    for (size_t k = 0; k < n; k++) {
+        char *end;
+        lengths[k] = strtoull(r->field[HEAD + k], &end, 10);
+        if (*end != ':') return DIFFERS;
+        bits[k] = decimal(end + 1);
+    }
+    const listing_told t = entry_check_listing(soft, BITS, level, !w.whole, lengths, n, bits, n);
+    if (t.number || t.place || t.line != wrong) return DIFFERS;
+    const size_t right = wrong ? (size_t)wrong - 1 : n;
+    const int ends = right && lengths[right - 1] == BITS;
+    if (wrong && right) {
+        const listing_told cut = entry_check_listing(soft, BITS, level, !w.whole, lengths, right, bits, right);
+        if (cut.number || cut.place || cut.line != (ends ? 0 : wrong)) return DIFFERS;
+    }
+    if (!ends) return wrong ? SAME : DIFFERS;
+    const found f = searched(w, soft, BITS, level, 2000);
+    return !f.number && f.count == right && f.word == bits[right - 1] ? SAME : DIFFERS;
 }
 
 /* What a row call wrote is the word of the line, or nothing. */
@@ -589,7 +619,7 @@ static void check_dump(const char *folder, const char *name) {
 }
 
 static const struct { const char *name; verdict (*line_of)(const record *); } texts[] = {
-    {"code.txt", code_line}, {"columns.txt", column_line}, {"search.txt", low_line}, {"lows.txt", low_line}, {"list2.txt", list_line}, {"chip.txt", chip_line}, {"held.txt", held_line}, {"outer.txt", outer_line}, {"pages.txt", page_line}, {"reports.txt", report_line}, {"chip-pages.txt", chip_page_line}, {"commit.txt", commit_line}, {"refusals.txt", refusal_line},
+    {"code.txt", code_line}, {"columns.txt", column_line}, {"search.txt", low_line}, {"lows.txt", low_line}, {"list2.txt", list_line}, {"chip.txt", chip_line}, {"held.txt", held_line}, {"listing.txt", listing_line}, {"outer.txt", outer_line}, {"pages.txt", page_line}, {"reports.txt", report_line}, {"chip-pages.txt", chip_page_line}, {"commit.txt", commit_line}, {"refusals.txt", refusal_line},
 };
 enum { TEXTS = sizeof texts / sizeof texts[0] };
 
