@@ -57,7 +57,11 @@ int main(void) {
         for (int level = 0; level < LEVELS; level++)
             for (int supercode = 0; supercode < 2; supercode++) {
                 double least[WAYS];
-                int same = fill(kinds[k].sigma, supercode, level);
+                int same = 1;
+                if (!fill(kinds[k].sigma, supercode, level)) {
+                    printf("%-7s level %d %-9s too few columns whose search ends\n", kinds[k].name, level, supercode ? "supercode" : "whole");
+                    continue;
+                }
                 for (int round = 0; round < ROUNDS; round++)
                     for (int way = 0; way < WAYS; way++) {
                         const int turn = (way + round) % WAYS;

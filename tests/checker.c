@@ -68,10 +68,15 @@ static uint64_t first_wrong(const listing *l) {
     return k == l->count && k == due->count && due->ends ? 0 : k + 1;
 }
 
-/* A listing of the column in hand is wrong at this line; 0: it is accepted. */
+/* The checker says of a listing of the column in hand that it is wrong at this line; 0: that it is accepted. */
+static void names_line(const char *what, const listing *l, uint64_t line) {
+    check(same(asked(hand.search, hand.soft, BITS, hand.level, l, l->count, l->count), (listing_told){.line = line}), what);
+}
+
+/* And it is. */
 static void judged(const char *what, const listing *l, uint64_t line) {
     check(first_wrong(l) == line, what);
-    check(same(asked(hand.search, hand.soft, BITS, hand.level, l, l->count, l->count), (listing_told){.line = line}), what);
+    names_line(what, l, line);
 }
 
 /* --- listings that are not the true one --- */
@@ -200,10 +205,10 @@ static void other_listings(void) {
     static listing other;
     list_paths(hand.search == WHOLE ? SUPERCODE : WHOLE, hand.soft, hand.level, &other);
     const uint64_t line = first_wrong(&other);
-    judged("the other search's listing", &other, line);
+    names_line("the other search's listing", &other, line);
     (line ? apart : alike)[hand.level] += hand.lines.ends;
     list_paths(hand.search, hand.soft, (hand.level + 1) % LEVELS, &other);
-    judged("the next level's listing", &other, first_wrong(&other));
+    names_line("the next level's listing", &other, first_wrong(&other));
 }
 
 /* All of this on one column, at its first line, its last and one between. */
@@ -316,7 +321,7 @@ static void bad_values(void) {
 }
 
 int main(void) {
-    products_right();
+    check_products();
     columns();
     largest_listings();
     questions();

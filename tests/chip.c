@@ -366,7 +366,7 @@ static void page_questions(void) {
 }
 
 int main(void) {
-    products_right();
+    check_products();
     column_questions();
     columns();
     for (uint64_t level = 0; level < LEVELS; level++) {

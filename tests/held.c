@@ -574,7 +574,7 @@ static void altered(void) {
 }
 
 int main(void) {
-    products_right();
+    check_products();
     start();
     check(take("the empty store", 0, 1).number == NOTHING, "the empty store");
     stories();

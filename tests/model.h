@@ -41,7 +41,7 @@ static int value_of(uint64_t level, int bit, int soft) {
     return (bit == reads ? agree : disagree)[doubt] + 2 * (int)level;
 }
 
-/* The two searches of a level by their codes: the products of factors whose multiples are the words of its supercodes, level 0 having its code alone, or of its code. */
+/* The codes of each search at each level, as products of factors: a path has to begin a multiple of both. The supercode search has the level's two supercodes, at level 0 the code alone; the whole search has the level's code. */
 enum { SUPERCODE, WHOLE, SEARCHES };
 static const uint32_t codes[SEARCHES][LEVELS][2] = {
     {{0x43, 1}, {0x43, 0x57}, {0x1539, 0x67}, {0x1539, 0x1a9f}},
@@ -54,7 +54,7 @@ static inline uint32_t times(uint32_t a, uint32_t b) {
     return product;
 }
 
-static inline void products_right(void) {
+static inline void check_products(void) {
     int right = times(0x43, 0x57) == codes[SUPERCODE][2][0] && times(0x67, 0x49) == codes[SUPERCODE][3][1];
     for (int i = 0; i < LEVELS; i++) right &= times(codes[SUPERCODE][i][0], codes[SUPERCODE][i][1]) == codes[WHOLE][i][0] && codes[WHOLE][i][1] == 1;
     check(right, "the products of the factors");

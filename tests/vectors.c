@@ -233,7 +233,7 @@ static verdict held_line(const record *r) {
     return same_found(f, told) && holds_so(&story_store, r->field + given + 6) && column_kept ? SAME : DIFFERS;
 }
 
-/* listing.txt: lines `LEN:BITS` from the fifth field on. An accepted listing has as many lines as the search takes, and its last is the word; without the wrong line and all after it a listing is wrong
+/* listing.txt: lines `LEN:BITS` after the first five fields. An accepted listing has as many lines as the search takes, and its last is the word; without the wrong line and all after it a listing is wrong
    at the same line, or accepted where that line followed the answer. */
 static verdict listing_line(const record *r) {
     static uint64_t lengths[FIELDS], bits[FIELDS];

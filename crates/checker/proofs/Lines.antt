@@ -6,10 +6,11 @@ use mathlib.Core.Path.{_≡_, refl, sym, ap, ap₂, _∙_, subst⁻¹}
 use Prim.Native.Nat.{ℕ, zero, suc, _^_, _≤_, _<_, suc-le-suc, min}
 use native.Mathlib.Omega.{arith}
 use lib.Dec.{eqb, leb, ltb}
-use lib.ListN.{length, take, length-take}
+use lib.ListN.{length, take, getD, length-take, length-map}
 use borrow.Author.Tests.{eqb-true, eq-eqb, le-leb, ltb-true, lt-ltb}
 use Rattle.paths.specs.Lists.{Mem}
 use Rattle.paths.specs.Paths.{Path, same}
+use Rattle.paths.proofs.Bounded.{of-take}
 use Rattle.paths.proofs.Booleans.{and-both, both-and, bool-ext}
 use Rattle.paths.proofs.Prefixes.{same-equal, equal-same}
 use Rattle.trellis.specs.Order.{number, pathOf}
@@ -90,16 +91,33 @@ pub are-numbers : (n : ℕ) (paths : List Path) → AllFit n paths → (lengths 
 are-numbers n paths fit lengths bits e = ap₂ (listingOf n) (e .lengths-are) (e .bits-are) ∙ listing-of-paths n paths fit
 
 -- so are its first k lines
-of-take : {A : Type 0} (x : A) (k : ℕ) (xs : List A) → Mem x (take k xs) → Mem x xs
-of-take x (suc k) (y ∷ xs) (inl e) = inl e
-of-take x (suc k) (y ∷ xs) (inr m) = inr (of-take x k xs m)
-
 module _ (n : ℕ) (paths : List Path) (fit : AllFit n paths) (lengths bits : List ℕ) (both : length lengths ≡ length bits) (k : ℕ) where
   few-fit : AllFit n (take k paths)
-  few-fit p m = fit p (of-take p k paths m)
+  few-fit p m = fit p (of-take k paths p m)
 
   pub first-lines : (take k (listingOf n lengths bits) ≡ take k paths) ↔ FirstNumbersOf k paths lengths bits
   first-lines = (
     λ e. numbers-are n (take k paths) few-fit (take k lengths) (take k bits) (length-take k lengths ∙ ap (min k) both ∙ sym (length-take k bits)) (sym (listing-take n k lengths bits) ∙ e),
     λ e. listing-take n k lengths bits ∙ are-numbers n (take k paths) few-fit (take k lengths) (take k bits) e,
   )
+
+-- no line that is no path is among them
+no-path-is-empty : (n len bits : ℕ) → isPath n len bits ≡ false → lineOf n len bits ≡ []
+unfolding lineOf
+no-path-is-empty n len bits e = rw e refl
+
+pub no-line-malformed : (n : ℕ) (paths : List Path) → AllFit n paths → (lengths bits : List ℕ) (k : ℕ) → k < length lengths → isPath n (getD lengths k 0) (getD bits k 0) ≡ false
+    → FirstNumbersOf (suc k) paths lengths bits → ⊥
+no-line-malformed n paths fit [] bits k l m e = omega arith
+no-line-malformed n [] fit (len ∷ lengths) bits k l m e = omega (arith, ap length (e .lengths-are))
+no-line-malformed n (q ∷ paths) fit (len ∷ lengths) [] k l m e = omega (arith, ap length (e .bits-are))
+no-line-malformed n (q ∷ paths) fit (len ∷ lengths) (b ∷ bits) zero l m e =
+    let line = is-line n len b q (fit q (inl refl)) (cc (e .lengths-are)) (cc (e .bits-are)) in
+    omega (arith, fit q (inl refl) .0, ap (λ (p : Path). length p) (sym (no-path-is-empty n len b m) ∙ line))
+no-line-malformed n (q ∷ paths) fit (len ∷ lengths) (b ∷ bits) (suc k) l m e =
+    no-line-malformed n paths (λ p h. fit p (inr h)) lengths bits k (omega arith) m (record { lengths-are = cc (e .lengths-are); bits-are = cc (e .bits-are) })
+
+-- and there are as many lengths among the first k numbers as among the first k paths
+pub first-numbers-length : (k : ℕ) (paths : List Path) (lengths bits : List ℕ) → FirstNumbersOf k paths lengths bits → min k (length lengths) ≡ min k (length paths)
+first-numbers-length k paths lengths bits e =
+    sym (length-take k lengths) ∙ ap length (e .lengths-are) ∙ length-map (take k paths) (λ (p : Path). length p) ∙ length-take k paths

@@ -49,7 +49,7 @@ module _ (n : ℕ) (table : List ℤ) (soft left right lengths numbers : List �
         ap (λ (m : ℕ). judges m 0 false (extend N (key (pos 0) 0 0) [])) all ∙ ap (λ (b : Bool). judges (length lengths - 0) 0 b (cond b [] (extend N (key (pos 0) 0 0) []))) (sym (ne-eqb 0 n (omega arith)));
   }
 
-  -- a line after the answer is wrong, and so is one where no path is left
+  -- a line after the answer is wrong, whatever is on the stack
   after-the-answer : (m k : ℕ) (stack : List Key) → judges (suc m) k true stack ≡ wrong (suc k)
   unfolding judge-keys
   after-the-answer m k [] = refl

@@ -135,11 +135,12 @@ unfolding without
 without-first p stack = rw (equal-same p p refl) refl
 
 module _ (t : Tree) where
-  -- lines that are the paths taken leave the stack of the search, and so they do after one step more
+  -- a line that is the first path on the stack leaves what a step of the search leaves
   pub step-leaves : (taken rest : List Path) (p : Path) → left-by t taken ≡ p ∷ rest → left-by t (p ∷ taken) ≡ grow (nodes t) p rest
   unfolding left-by
   step-leaves taken rest p e = ap (λ (stack : List Path). grow (nodes t) p (without p stack)) e ∙ ap (grow (nodes t) p) (without-first p rest)
 
+  -- the paths taken leave the stack of the search
   taken-leave-the-stack : (k : ℕ) → left-by t (after t k .taken) ≡ after t k .stack
   unfolding start step take-head left-by
   taken-leave-the-stack zero = subst⁻¹ (λ (s : State). left-by t (s .taken) ≡ s .stack) (after-zero t) refl

@@ -16,7 +16,7 @@ pub data Verdict : Type 0 where
   accepted : Verdict
   wrong : ℕ → Verdict
 
--- p is no longer on the stack
+-- the stack without p
 unfoldable pub without : Path → List Path → List Path
 without p [] = []
 without p (q ∷ stack) = let others = without p stack in cond (same p q) stack (q ∷ others)

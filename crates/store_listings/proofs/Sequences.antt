@@ -1,10 +1,11 @@
 -- What the checker accepts, which line it names, and what it answers besides: of the call's own answer. Assumes nothing.
+use mathlib.Core.Bool.{false}
 use mathlib.Core.List.{List, [], _∷_, _++_, map, map-append}
 use mathlib.Core.Logic.{_↔_, _⊎_, inl, inr}
-use mathlib.Core.Path.{_≡_, refl, sym, ap, _∙_}
-use Prim.Native.Nat.{ℕ, _+_, _-_, _≤_, _<_}
+use mathlib.Core.Path.{_≡_, refl, sym, ap, _∙_, subst}
+use Prim.Native.Nat.{ℕ, suc, _+_, _-_, _≤_, _<_}
 use native.Mathlib.Omega.{arith}
-use lib.ListN.{length, length-map}
+use lib.ListN.{length, getD, length-map}
 use Rattle.column.specs.Shape.{short}
 use Rattle.paths.specs.Paths.{Path}
 use Rattle.paths.specs.Tree.{Tree, Sound, Winner, number as rank}
@@ -20,12 +21,12 @@ use Rattle.trellis.specs.Trellis.{foundWord, searched}
 use Rattle.trellis.specs.Demand.{Search, AheadOfAll}
 use Rattle.trellis.proofs.Demand.{trellis-sound, winner-is-ahead-of-all}
 use Rattle.trellis.proofs.Short.{searchable, answers-within-the-limit}
-use Rattle.checker.specs.Lines.{listingOf, NumbersOf, FirstNumbersOf}
-use Rattle.checker.proofs.Lines.{AllFit, listing-length, numbers-are, are-numbers, first-lines}
+use Rattle.checker.specs.Lines.{isPath, listingOf, NumbersOf, FirstNumbersOf}
+use Rattle.checker.proofs.Lines.{AllFit, listing-length, numbers-are, are-numbers, first-lines, no-line-malformed, first-numbers-length}
 use Rattle.questions.specs.declared.Outcome.{Outcome}
 use Rattle.questions.specs.declared.Outcome.the-variants.{Done}
 use Rattle.questions.specs.declared.Outcome.the-variants as outcome
-use Rattle.store_listings.specs.Listings.{Allowed, askListing, verdictAnswer, named, listingAnswer}
+use Rattle.store_listings.specs.Listings.{Allowed, askListing, verdictAnswer, namedTrellis, listingAnswer}
 use Rattle.store_listings.specs.declared.ListingAnswer.{ListingAnswer}
 use Rattle.store_listings.specs.declared.ListingAnswer.the-variants.{Accepted, Wrong, Refused}
 use Rattle.store_listings.proofs.Questions.{all-yes, ready, settled}
@@ -48,7 +49,7 @@ answer-is-wrong (wrong j) k e = let same : j ≡ k = cc e in ap wrong same
 
 module _ (s : Search) (i : ℕ) (soft : List ℕ) where
   abbrev t : Tree
-  t = named s i soft
+  t = namedTrellis s i soft
 
   sound : i < 4 → Sound t
   sound h = trellis-sound short i (searchable i h) (levelValues i) soft s
@@ -124,7 +125,24 @@ module _ (s : Search) (i : ℕ) (soft : List ℕ) where
             judged-if-allowed allowed
             ∙ ap verdictAnswer (judge.wrong-exactly t (sound (allowed .level)) w paths q (listingOf 30 lengths bits) k .1 (record { same-before = first (k - 1) .1 same; differ = λ e. differ (first k .0 e) }))
 
-    -- ---- no listing is refused but by the questions, and a line that is named is one of its lines or the one after its last
+    -- ---- after lines that are the search's own: a line that is no path, a line after the answer and an early stop
+
+    module _ (allowed : Allowed i soft lengths bits) (w : Path) (paths : List Path) (q : Sequence t w paths) (k : ℕ) (right-before : FirstNumbersOf k paths lengths bits) where
+      wrong-there : (FirstNumbersOf (suc k) paths lengths bits → ⊥) → said ≡ Wrong (suc k)
+      wrong-there differ =
+          let before-it : k ≡ suc k - 1 = omega arith in
+          wrong-exactly (suc k) .1 ((allowed, w, paths, q, subst (λ (j : ℕ). FirstNumbersOf j paths lengths bits) before-it right-before, differ))
+
+      pub malformed-line-is-wrong : k < length lengths → isPath 30 (getD lengths k 0) (getD bits k 0) ≡ false → said ≡ Wrong (suc k)
+      malformed-line-is-wrong l no-path = wrong-there (no-line-malformed 30 paths (all-fit (allowed .level) w paths q) lengths bits k l no-path)
+
+      pub line-after-the-answer-is-wrong : k ≡ length paths → k < length lengths → said ≡ Wrong (suc k)
+      line-after-the-answer-is-wrong all l = wrong-there (λ e. omega (arith, first-numbers-length (suc k) paths lengths bits e))
+
+      pub early-stop-is-wrong : k ≡ length lengths → k < length paths → said ≡ Wrong (suc k)
+      early-stop-is-wrong all l = wrong-there (λ e. omega (arith, first-numbers-length (suc k) paths lengths bits e))
+
+    -- ---- no listing is refused but by the questions, and a line that is namedTrellis is one of its lines or the one after its last
 
     pub accepted-or-wrong : Allowed i soft lengths bits → (said ≡ Accepted) ⊎ ((k : ℕ) × (said ≡ Wrong k) × (1 ≤ k) × (k ≤ length lengths + 1))
     unfolding verdictAnswer

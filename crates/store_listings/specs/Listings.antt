@@ -65,12 +65,12 @@ verdictAnswer accepted = Accepted
 verdictAnswer (wrong k) = Wrong k
 
 -- "the named search, whole or supercode, .. on that column"
-abbrev pub named : Search → ℕ → List ℕ → Tree
-named s level soft = trellis s short (levelValues level) soft level
+abbrev pub namedTrellis : Search → ℕ → List ℕ → Tree
+namedTrellis s level soft = trellis s short (levelValues level) soft level
 
 -- these questions, then the judge
 abbrev pub listingAnswer : Search → ℕ → List ℕ → List ℕ → List ℕ → ListingAnswer
-listingAnswer s level soft lengths bits = askListing level soft lengths bits Refused (verdictAnswer (judged (named s level soft) (listingOf 30 lengths bits)))
+listingAnswer s level soft lengths bits = askListing level soft lengths bits Refused (verdictAnswer (judged (namedTrellis s level soft) (listingOf 30 lengths bits)))
 
 -- ---- For the code's contracts
 

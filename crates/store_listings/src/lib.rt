@@ -4,7 +4,7 @@ ghost use Rattle.paths.specs.Listings.{judged};
 ghost use Rattle.search.specs.Outcomes.{searchOf};
 ghost use Rattle.checker.specs.Lines.{listingOf};
 ghost use Rattle.questions.specs.declared.Outcome.the-variants.{Done, Refused};
-ghost use Rattle.store_listings.specs.Listings.{Answered, Allowed, askListing, verdictAnswer, named, listingAnswer};
+ghost use Rattle.store_listings.specs.Listings.{Answered, Allowed, askListing, verdictAnswer, namedTrellis, listingAnswer};
 use checker::Verdict;
 use questions::Outcome;
 
@@ -50,7 +50,7 @@ fn check_allowed(
     bits: &[u64],
 ) -> ListingAnswer
     requires { ⌜ Allowed level (now soft) (now lengths) (now bits) ⌝ }
-    ensures { λ r. ⌜ r ≡ verdictAnswer (judged (named (searchOf in_supercodes) level (now (soft .entry))) (listingOf 30 (now (lengths .entry)) (now (bits .entry)))) ⌝ }
+    ensures { λ r. ⌜ r ≡ verdictAnswer (judged (namedTrellis (searchOf in_supercodes) level (now (soft .entry))) (listingOf 30 (now (lengths .entry)) (now (bits .entry)))) ⌝ }
 {
     let tables = search::short_page::tables_of(level as usize, in_supercodes);
     let left = tables.left;

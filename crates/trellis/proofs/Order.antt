@@ -51,7 +51,7 @@ number-one-path [] (c ∷ q) l e = absurd (omega arith)
 number-one-path (b ∷ p) [] l e = absurd (omega arith)
 number-one-path (b ∷ p) (c ∷ q) l e = let k = last-digit b c (number p) (number q) e in ap₂ _∷_ (k .0) (number-one-path p q (omega arith) (k .1))
 
--- and every number is a path's
+-- the path of n bits with a number has n bits and that number
 pub path-length : (n x : ℕ) → length (pathOf n x) ≡ n
 unfolding pathOf
 path-length zero x = refl
@@ -67,6 +67,7 @@ number-of-path (suc n) x l = omega (arith, number-of-path n (x / 2) (omega (arit
     digit (suc zero) l = refl
     digit (suc (suc k)) l = absurd (omega arith)
 
+-- so every number is a path's
 pub number-has-a-path : (n x : ℕ) → x < 2 ^ n → (p : Path) × (length p ≡ n) × (number p ≡ x)
 number-has-a-path n x l = (pathOf n x, path-length n x, number-of-path n x l)
 

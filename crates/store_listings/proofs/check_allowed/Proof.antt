@@ -5,7 +5,7 @@ use Rattle.search.specs.Outcomes.{searchOf}
 use Rattle.search.proofs.ShortSearch.{column-searchable}
 use Rattle.checker.specs.Lines.{listingOf}
 use Rattle.checker.specs.Judging.{codeVerdict}
-use Rattle.store_listings.specs.Listings.{named, asAnswer}
+use Rattle.store_listings.specs.Listings.{namedTrellis, asAnswer}
 use Rattle.store_listings.proofs.Questions.{answered-as}
 use borrow.Author.Needs.{needs}
 use Rattle.store_listings.proofs.check_allowed.Statement.{statement}
@@ -16,7 +16,7 @@ start said = said .before .before .before .before .before .before .before .befor
 
 -- what the checker says
 verdict-is : (said : tie.After-judge-column)
-    → said .judge-column .result ≡ codeVerdict (judged (named (searchOf (start said .args .in-supercodes)) (start said .args .level) (start said .args .soft .now)) (listingOf 30 (start said .args .lengths .now) (start said .args .bits .now)))
+    → said .judge-column .result ≡ codeVerdict (judged (namedTrellis (searchOf (start said .args .in-supercodes)) (start said .args .level) (start said .args .soft .now)) (listingOf 30 (start said .args .lengths .now) (start said .args .bits .now)))
 verdict-is said =
     said .judge-column .ensures .1 (searchOf (start said .args .in-supercodes)) (start said .args .level) (start said .pre .level) (said .before .before .before .before .before .before .before .before .before .before .tables-of .ensures)
 

@@ -2,7 +2,7 @@
 ghost use mathlib.Core.Path.{_≡_};
 ghost use Rattle.search.specs.Outcomes.{searchOf};
 ghost use Rattle.store_listings.specs.Listings.{listingAnswer};
-ghost use Rattle.listing_entries.specs.Told.{listingToldOf};
+ghost use Rattle.checker_entries.specs.Told.{listingToldOf};
 use store_listings::ListingAnswer;
 
 // What the checker answers, as C gets it: line 0 where the listing is accepted, or refused by number and place.

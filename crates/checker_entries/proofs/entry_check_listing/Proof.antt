@@ -1,9 +1,9 @@
--- `listing_entries::entry_check_listing` meets its contract: the call's answer, as three numbers. Assumes nothing.
+-- `checker_entries::entry_check_listing` meets its contract: the call's answer, as three numbers. Assumes nothing.
 use mathlib.Core.Path.{ap, _∙_}
-use Rattle.listing_entries.specs.Told.{listingToldOf}
+use Rattle.checker_entries.specs.Told.{listingToldOf}
 use borrow.Author.Needs.{needs}
-use Rattle.listing_entries.proofs.entry_check_listing.Statement.{statement}
-use Rattle.listing_entries.proofs.entry_check_listing.Tie as tie
+use Rattle.checker_entries.proofs.entry_check_listing.Statement.{statement}
+use Rattle.checker_entries.proofs.entry_check_listing.Tie as tie
 
 check-listing-requires : tie.Need-check-listing-requires
 check-listing-requires c κs = search needs

@@ -1,9 +1,9 @@
--- `listing_entries::numbers_of_listing` meets its contract, case by case. Assumes nothing.
+-- `checker_entries::numbers_of_listing` meets its contract, case by case. Assumes nothing.
 use mathlib.Core.Path.{sym, ap}
-use Rattle.listing_entries.specs.Told.{listingToldOf}
+use Rattle.checker_entries.specs.Told.{listingToldOf}
 use borrow.Author.Needs.{needs}
-use Rattle.listing_entries.proofs.numbers_of_listing.Statement.{statement}
-use Rattle.listing_entries.proofs.numbers_of_listing.Tie as tie
+use Rattle.checker_entries.proofs.numbers_of_listing.Statement.{statement}
+use Rattle.checker_entries.proofs.numbers_of_listing.Tie as tie
 
 enum-told : tie.Need-enum-told
 enum-told c = search needs
