@@ -142,7 +142,7 @@ module _ (s : Search) (i : ℕ) (soft : List ℕ) where
       pub early-stop-is-wrong : k ≡ length lengths → k < length paths → said ≡ Wrong (suc k)
       early-stop-is-wrong all l = wrong-there (λ e. omega (arith, first-numbers-length (suc k) paths lengths bits e))
 
-    -- ---- no listing is refused but by the questions, and a line that is namedTrellis is one of its lines or the one after its last
+    -- ---- no listing is refused but by the questions, and a line that is named is one of its lines or the one after its last
 
     pub accepted-or-wrong : Allowed i soft lengths bits → (said ≡ Accepted) ⊎ ((k : ℕ) × (said ≡ Wrong k) × (1 ≤ k) × (k ≤ length lengths + 1))
     unfolding verdictAnswer
