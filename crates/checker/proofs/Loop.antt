@@ -71,15 +71,11 @@ module _ (n : ℕ) (table : List ℤ) (soft left right lengths numbers : List �
         ∙ one-on k
 
     -- after the last
-    ended : length lengths ≤ k → judged-keys N lengths numbers ≡ cond (eqb (p .len) n) accepted (wrong (suc k))
+    pub ended : length lengths ≤ k → (full : Bool) → eqb (p .len) n ≡ full → judged-keys N lengths numbers ≡ cond full accepted (wrong (k + 1))
     unfolding judge-keys
-    ended l = let e : length lengths - k ≡ 0 = omega arith in j .same ∙ ap (λ (m : ℕ). judges m k (eqb (p .len) n) (grow N p (j .rest))) e
-
-    pub all-are-right : length lengths ≤ k → p .len ≡ n → judged-keys N lengths numbers ≡ accepted
-    all-are-right l full = ended l ∙ ap (λ (b : Bool). cond b accepted (wrong (suc k))) (eq-eqb (p .len) n full)
-
-    pub stops-early : length lengths ≤ k → (p .len ≡ n → ⊥) → judged-keys N lengths numbers ≡ wrong (k + 1)
-    stops-early l partial = ended l ∙ ap (λ (b : Bool). cond b accepted (wrong (suc k))) (ne-eqb (p .len) n partial) ∙ one-on k
+    ended l full is =
+        let e : length lengths - k ≡ 0 = omega arith in
+        j .same ∙ ap (λ (m : ℕ). judges m k (eqb (p .len) n) (grow N p (j .rest))) e ∙ ap₂ (λ (b : Bool) (w : Verdict). cond b accepted w) is (one-on k)
 
     -- a step is made for line k + 1
     module _ (f′ : ℕ → Key) (paths′ : ℕ) (y : Key) (l : k < length lengths) (partial : p .len ≡ n → ⊥) (d : Advanced N n f f′ paths paths′ p y) where

@@ -1,6 +1,6 @@
 -- The judge of listings accepts exactly the sequence of paths that the search takes, and names the first line that differs from it. Assumes nothing.
 use mathlib.Core.Bool.{Bool, true, false, cond}
-use mathlib.Core.List.{List, [], _∷_, _++_, append-nil, append-assoc, reverse, reverse-cons}
+use mathlib.Core.List.{List, [], _∷_, _++_, nil≢cons, cons≢nil, head-eq-of-cons-eq, tail-eq-of-cons-eq, cons-eq-cons, append-nil, append-assoc, reverse, reverse-cons}
 use mathlib.Core.Logic.{_↔_, _⊎_, inl, inr}
 use mathlib.Core.Path.{_≡_, refl, sym, ap, ap₂, _∙_, subst, subst⁻¹}
 use Prim.Native.Nat.{ℕ, zero, suc, _+_, _-_, _≤_, _<_}
@@ -51,25 +51,18 @@ accepted-same k (p ∷ lines) (q ∷ others) e = go (same p q) refl e (accepted-
     go true s h ih = ap₂ _∷_ (same-equal p q s) (ih h)
     go false s h ih = accepted-is-not-wrong k (sym h)
 
--- two lists that begin with one path each
-heads : (p q : Path) (lines others : List Path) → p ∷ lines ≡ q ∷ others → (p ≡ q) × (lines ≡ others)
-heads p q lines others e = (cc e, cc e)
-
-no-line : {X : Type 0} (p : Path) (lines : List Path) → p ∷ lines ≡ [] → X
-no-line p lines e = let n : suc (length lines) ≡ 0 = ap length e in absurd (omega arith)
-
 -- the line at which they differ first, j lines on
 difference-is-wrong : (j k : ℕ) (lines others : List Path) → take j lines ≡ take j others → (take (suc j) lines ≡ take (suc j) others → ⊥) → compared k lines others ≡ wrong (k + j)
 unfolding compared
 difference-is-wrong j k [] [] e d = absurd (d refl)
 difference-is-wrong zero k [] (q ∷ others) e d = ap wrong (sym (add-zero k))
-difference-is-wrong (suc j) k [] (q ∷ others) e d = no-line q (take j others) (sym e)
+difference-is-wrong (suc j) k [] (q ∷ others) e d = absurd (nil≢cons e)
 difference-is-wrong zero k (p ∷ lines) [] e d = ap wrong (sym (add-zero k))
-difference-is-wrong (suc j) k (p ∷ lines) [] e d = no-line p (take j lines) e
+difference-is-wrong (suc j) k (p ∷ lines) [] e d = absurd (cons≢nil e)
 difference-is-wrong zero k (p ∷ lines) (q ∷ others) e d =
     rw (is-false (same p q) (λ s. d (ap (λ (r : Path). r ∷ []) (same-equal p q s)))) (ap wrong (sym (add-zero k)))
 difference-is-wrong (suc j) k (p ∷ lines) (q ∷ others) e d =
-    let h = heads p q (take j lines) (take j others) e in
+    let h = cons-eq-cons .0 e in
     let moved : suc k + j ≡ k + suc j = omega arith in
     rw (equal-same p q (h .0)) (difference-is-wrong j (suc k) lines others (h .1) (λ s. d (ap₂ _∷_ (h .0) s)) ∙ ap wrong moved)
 
@@ -86,8 +79,8 @@ wrong-number k l e = omega (arith, same-line e)
 wrong-is-difference : (k l : ℕ) (lines others : List Path) → compared k lines others ≡ wrong l → NamedAt k l lines others
 unfolding compared
 wrong-is-difference k l [] [] e = accepted-is-not-wrong l e
-wrong-is-difference k l [] (q ∷ others) e = (0, wrong-number k l e, refl, λ s. no-line q [] (sym s))
-wrong-is-difference k l (p ∷ lines) [] e = (0, wrong-number k l e, refl, λ s. no-line p [] s)
+wrong-is-difference k l [] (q ∷ others) e = (0, wrong-number k l e, refl, λ s. nil≢cons s)
+wrong-is-difference k l (p ∷ lines) [] e = (0, wrong-number k l e, refl, λ s. cons≢nil s)
 wrong-is-difference k l (p ∷ lines) (q ∷ others) e = go (same p q) refl e (wrong-is-difference (suc k) l lines others)
   where
     go : (b : Bool) → same p q ≡ b → cond b (compared (suc k) lines others) (wrong k) ≡ wrong l → (compared (suc k) lines others ≡ wrong l → NamedAt (suc k) l lines others)
@@ -95,8 +88,8 @@ wrong-is-difference k l (p ∷ lines) (q ∷ others) e = go (same p q) refl e (w
     go true s h ih =
         let n = ih h in
         let one = same-equal p q s in
-        (suc (n .0), omega (arith, n .1), ap₂ _∷_ one (n .2), λ m. n .3 (heads p q (take (suc (n .0)) lines) (take (suc (n .0)) others) m .1))
-    go false s h ih = (0, wrong-number k l h, refl, λ m. not-both (same p q) s (equal-same p q (heads p q [] [] m .0)))
+        (suc (n .0), omega (arith, n .1), ap₂ _∷_ one (n .2), λ m. n .3 (tail-eq-of-cons-eq m))
+    go false s h ih = (0, wrong-number k l h, refl, λ m. not-both (same p q) s (equal-same p q (head-eq-of-cons-eq m)))
 
 -- ---- a line after others
 

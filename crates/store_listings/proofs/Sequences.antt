@@ -21,12 +21,12 @@ use Rattle.trellis.specs.Trellis.{foundWord, searched}
 use Rattle.trellis.specs.Demand.{Search, AheadOfAll}
 use Rattle.trellis.proofs.Demand.{trellis-sound, winner-is-ahead-of-all}
 use Rattle.trellis.proofs.Short.{searchable, answers-within-the-limit}
-use Rattle.checker.specs.Lines.{isPath, listingOf, NumbersOf, FirstNumbersOf}
+use Rattle.checker.specs.Lines.{isPath, listingOf, FirstNumbersOf}
 use Rattle.checker.proofs.Lines.{AllFit, listing-length, numbers-are, are-numbers, first-lines, no-line-malformed, first-numbers-length}
 use Rattle.questions.specs.declared.Outcome.{Outcome}
 use Rattle.questions.specs.declared.Outcome.the-variants.{Done}
 use Rattle.questions.specs.declared.Outcome.the-variants as outcome
-use Rattle.store_listings.specs.Listings.{Allowed, askListing, verdictAnswer, namedTrellis, listingAnswer}
+use Rattle.store_listings.specs.Listings.{Allowed, askListing, verdictAnswer, namedTrellis, listingAnswer, IsTheSequence, DiffersFirstAt}
 use Rattle.store_listings.specs.declared.ListingAnswer.{ListingAnswer}
 use Rattle.store_listings.specs.declared.ListingAnswer.the-variants.{Accepted, Wrong, Refused}
 use Rattle.store_listings.proofs.Questions.{all-yes, ready, settled}
@@ -79,14 +79,11 @@ module _ (s : Search) (i : ℕ) (soft : List ℕ) where
 
     -- ---- 02: "accepts a listing exactly if it is the sequence of paths, from first to answer, that the named search .. takes on that column"
 
-    abbrev IsTheSequence : Type 0
-    IsTheSequence = Allowed i soft lengths bits × (w : Path) × (paths : List Path) × Sequence t w paths × NumbersOf paths lengths bits
-
-    pub accepted-exactly : (said ≡ Accepted) ↔ IsTheSequence
+    pub accepted-exactly : (said ≡ Accepted) ↔ IsTheSequence s i soft lengths bits
     unfolding verdictAnswer
     accepted-exactly = (to, from)
       where
-        to : said ≡ Accepted → IsTheSequence
+        to : said ≡ Accepted → IsTheSequence s i soft lengths bits
         to e =
             let allowed = allowed-if-judged Accepted accepted-is-no-refusal e in
             let win = there-is-a-winner t (sound (allowed .level)) in
@@ -95,21 +92,18 @@ module _ (s : Search) (i : ℕ) (soft : List ℕ) where
             let lines = judge.accepted-exactly t (sound (allowed .level)) (win .0) (q .0) (q .1) (listingOf 30 lengths bits) .0 is in
             (allowed, win .0, q .0, q .1, numbers-are 30 (q .0) (all-fit (allowed .level) (win .0) (q .0) (q .1)) lengths bits (allowed .both) lines)
 
-        from : IsTheSequence → said ≡ Accepted
+        from : IsTheSequence s i soft lengths bits → said ≡ Accepted
         from (allowed, w, paths, q, numbers) =
             judged-if-allowed allowed
             ∙ ap verdictAnswer (judge.accepted-exactly t (sound (allowed .level)) w paths q (listingOf 30 lengths bits) .1 (are-numbers 30 paths (all-fit (allowed .level) w paths q) lengths bits numbers))
 
-    -- ---- 02: "it names the first wrong line": up to the line before, the numbers are those of the sequence, and up to it they are not
+    -- ---- 02: "it names the first wrong line"
 
-    abbrev DiffersFirstAt : ℕ → Type 0
-    DiffersFirstAt k = Allowed i soft lengths bits × (w : Path) × (paths : List Path) × Sequence t w paths × FirstNumbersOf (k - 1) paths lengths bits × (FirstNumbersOf k paths lengths bits → ⊥)
-
-    pub wrong-exactly : (k : ℕ) → (said ≡ Wrong k) ↔ DiffersFirstAt k
+    pub wrong-exactly : (k : ℕ) → (said ≡ Wrong k) ↔ DiffersFirstAt s i soft lengths bits k
     unfolding verdictAnswer
     wrong-exactly k = (to, from)
       where
-        to : said ≡ Wrong k → DiffersFirstAt k
+        to : said ≡ Wrong k → DiffersFirstAt s i soft lengths bits k
         to e =
             let allowed = allowed-if-judged (Wrong k) (wrong-is-no-refusal k) e in
             let win = there-is-a-winner t (sound (allowed .level)) in
@@ -119,7 +113,7 @@ module _ (s : Search) (i : ℕ) (soft : List ℕ) where
             let first = first-lines 30 (q .0) (all-fit (allowed .level) (win .0) (q .0) (q .1)) lengths bits (allowed .both) in
             (allowed, win .0, q .0, q .1, first (k - 1) .0 (d .same-before), λ n. d .differ (first k .1 n))
 
-        from : DiffersFirstAt k → said ≡ Wrong k
+        from : DiffersFirstAt s i soft lengths bits k → said ≡ Wrong k
         from (allowed, w, paths, q, same, differ) =
             let first = first-lines 30 paths (all-fit (allowed .level) w paths q) lengths bits (allowed .both) in
             judged-if-allowed allowed
@@ -161,7 +155,7 @@ module _ (s : Search) (i : ℕ) (soft : List ℕ) where
         × ((limit : ℕ) → length lengths ≤ limit → searched t limit ≡ answer (foundWord (sum (levelValues i) soft) w) (length lengths))
     accepted-ends-with-the-answer e = go (accepted-exactly .0 e)
       where
-        go : IsTheSequence
+        go : IsTheSequence s i soft lengths bits
             → (w : Path) × AheadOfAll short (levelValues i) soft i w × (length lengths ≡ rank t w) × ((earlier : List ℕ) × (bits ≡ earlier ++ (number w ∷ [])))
             × ((limit : ℕ) → length lengths ≤ limit → searched t limit ≡ answer (foundWord (sum (levelValues i) soft) w) (length lengths))
         go (allowed, w, paths, q, numbers) = (w, best, lines ∙ whose .1, (map number (ends .0), last), λ limit l. found limit (omega (arith, l, lines, whose .1)))
@@ -197,7 +191,7 @@ module _ (s : Search) (i : ℕ) (soft : List ℕ) where
   pub one-listing : (lengths bits lengths′ bits′ : List ℕ) → listingAnswer s i soft lengths bits ≡ Accepted → listingAnswer s i soft lengths′ bits′ ≡ Accepted → (lengths ≡ lengths′) × (bits ≡ bits′)
   one-listing lengths bits lengths′ bits′ e e′ = go (accepted-exactly lengths bits .0 e) (accepted-exactly lengths′ bits′ .0 e′)
     where
-      go : IsTheSequence lengths bits → IsTheSequence lengths′ bits′ → (lengths ≡ lengths′) × (bits ≡ bits′)
+      go : IsTheSequence s i soft lengths bits → IsTheSequence s i soft lengths′ bits′ → (lengths ≡ lengths′) × (bits ≡ bits′)
       go (allowed, w, paths, q, numbers) (allowed′, w′, paths′, q′, numbers′) =
           let one = one-sequence t (sound (allowed .level)) w w′ paths paths′ q q′ .1 in
           (numbers .lengths-are ∙ ap (map (λ (p : Path). length p)) one ∙ sym (numbers′ .lengths-are), numbers .bits-are ∙ ap (map number) one ∙ sym (numbers′ .bits-are))

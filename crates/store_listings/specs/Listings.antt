@@ -1,15 +1,16 @@
 -- 02, point 11: the questions put to the checker of listings, and its answer. Assumes nothing.
 use mathlib.Core.List.{List}
 use mathlib.Core.Path.{_≡_}
-use Prim.Native.Nat.{ℕ, _≤_, _<_}
+use Prim.Native.Nat.{ℕ, _-_, _≤_, _<_}
 use lib.Dec.{eqb, ltb, leb}
 use lib.ListN.{length, getD}
 use Rattle.column.specs.Shape.{short}
+use Rattle.paths.specs.Paths.{Path}
 use Rattle.paths.specs.Tree.{Tree}
-use Rattle.paths.specs.Listings.{Verdict, accepted, wrong, judged}
+use Rattle.paths.specs.Listings.{Verdict, accepted, wrong, judged, Sequence}
 use Rattle.trellis.specs.Values.{levelValues}
 use Rattle.trellis.specs.Demand.{Search, trellis}
-use Rattle.checker.specs.Lines.{listingOf}
+use Rattle.checker.specs.Lines.{listingOf, NumbersOf, FirstNumbersOf}
 use Rattle.checker.specs.declared.Verdict.{Verdict as CodeVerdict}
 use Rattle.checker.specs.declared.Verdict.the-variants.{Accepted as CodeAccepted, Wrong as CodeWrong}
 use Rattle.questions.specs.Questions.{ask, firstAbove}
@@ -71,6 +72,17 @@ namedTrellis s level soft = trellis s short (levelValues level) soft level
 -- these questions, then the judge
 abbrev pub listingAnswer : Search → ℕ → List ℕ → List ℕ → List ℕ → ListingAnswer
 listingAnswer s level soft lengths bits = askListing level soft lengths bits Refused (verdictAnswer (judged (namedTrellis s level soft) (listingOf 30 lengths bits)))
+
+-- ---- what the answer has to say
+
+-- the numbers are those of "the sequence of paths, from first to answer, that the named search .. takes on that column"
+abbrev pub IsTheSequence : Search → ℕ → List ℕ → List ℕ → List ℕ → Type 0
+IsTheSequence s level soft lengths bits = Allowed level soft lengths bits × (w : Path) × (paths : List Path) × Sequence (namedTrellis s level soft) w paths × NumbersOf paths lengths bits
+
+-- line k is "the first wrong line": up to the line before, the numbers are those of the sequence, and up to it they are not
+abbrev pub DiffersFirstAt : Search → ℕ → List ℕ → List ℕ → List ℕ → ℕ → Type 0
+DiffersFirstAt s level soft lengths bits k =
+    Allowed level soft lengths bits × (w : Path) × (paths : List Path) × Sequence (namedTrellis s level soft) w paths × FirstNumbersOf (k - 1) paths lengths bits × (FirstNumbersOf k paths lengths bits → ⊥)
 
 -- ---- For the code's contracts
 

@@ -1,20 +1,22 @@
 -- `checker::judge` meets its contract. The loop's invariant: so many lines are right, and the judge of the specification goes on from there. Assumes nothing.
-use Prim.Native.Nat.{_-_, _<_}
+use Prim.Native.Nat.{_+_, _-_, _≤_, _<_}
+use lib.Dec.{eqb}
 use lib.ListN.{length}
+use mathlib.Core.Bool.{Bool, true, false, cond}
 use mathlib.Core.Path.{_≡_, sym, ap, _∙_}
 use mir.Syntax.{w16}
 use mir.Val.{toZ, ofZ}
-use Rattle.paths.specs.Listings.{Verdict}
+use Rattle.paths.specs.Listings.{Verdict, accepted, wrong}
 use Rattle.trellis.specs.Values.{Values}
 use Rattle.trellis.specs.Keys.{key, keyNodes}
 use Rattle.stack.specs.Places.{at, Room}
 use Rattle.extension.specs.Steps.{TableOf, tableNodes, Advanced}
 use Rattle.extension.proofs.Advances.{advanced-at}
 use Rattle.checker.specs.Judging.{codeVerdict, judged-keys}
-use Rattle.checker.proofs.Loop.{Judging, judging-start, follows-the-answer, all-are-right, stops-early, wrong-line, right-line, contract}
+use Rattle.checker.proofs.Loop.{Judging, judging-start, follows-the-answer, ended, wrong-line, right-line, contract}
 use native.Mathlib.Omega.{arith}
 use borrow.Author.Needs.{needs}
-use borrow.Author.Tests.{not-true, not-false}
+use borrow.Author.Tests.{eq-eqb, ne-eqb, not-true, not-false}
 use Rattle.checker.proofs.judge.Statement.{statement}
 use Rattle.checker.proofs.judge.Tie as tie
 
@@ -45,14 +47,25 @@ advanced st = advanced-at _ _ _ _ _ _ _ _ _ _ (record { sfits = st .struct-told 
 some-line : (i : tie.In-loop Inv-loop μ-loop) → i .before .loop .k < 2000
 some-line i = omega (arith, i .loop-test .taken, start (i .before) .pre .0 .few)
 
--- what the contract says of a verdict that the judge on keys gives
-told : (v : tie.At-loop Inv-loop μ-loop) (w : Verdict)
-    → (let a = start v in judged-keys (tableNodes (a .args .n) (a .args .values .now) (a .args .col .now) (a .args .left .now) (a .args .right .now)) (a .args .lengths .now) (a .args .numbers .now) ≡ w
-    → (vs : Values) → TableOf vs (a .args .values .now)
+-- the verdict of the judge on keys
+abbrev verdict : tie.At-loop Inv-loop μ-loop → Verdict
+verdict v =
+    let a = start v in
+    judged-keys (tableNodes (a .args .n) (a .args .values .now) (a .args .col .now) (a .args .left .now) (a .args .right .now)) (a .args .lengths .now) (a .args .numbers .now)
+
+-- what the contract says of it
+told : (v : tie.At-loop Inv-loop μ-loop) (w : Verdict) → verdict v ≡ w
+    → (let a = start v in (vs : Values) → TableOf vs (a .args .values .now)
     → codeVerdict w ≡ codeVerdict (judged-keys (keyNodes (a .args .n) vs (a .args .col .now) (a .args .left .now) (a .args .right .now)) (a .args .lengths .now) (a .args .numbers .now)))
 told v w e vs tb =
     let a = start v in
     contract (a .args .n) (a .args .values .now) (a .args .col .now) (a .args .left .now) (a .args .right .now) (a .args .lengths .now) (a .args .numbers .now) vs (a .pre .1 .0) tb _ (ap codeVerdict (sym e))
+
+-- after the last line
+at-the-end : (v : tie.At-loop Inv-loop μ-loop) → length (start v .args .lengths .now) ≤ v .loop .k → (full : Bool) → eqb (v .loop .l) (start v .args .n) ≡ full → verdict v ≡ cond full accepted (wrong (v .loop .k + 1))
+at-the-end v over =
+    let a = start v in
+    ended (a .args .n) (a .args .values .now) (a .args .col .now) (a .args .left .now) (a .args .right .now) (a .args .lengths .now) (a .args .numbers .now) _ _ _ _ (v .loop .inv .1) over
 
 loop-holds : tie.Need-loop-holds Inv-loop μ-loop
 loop-holds c =
@@ -129,10 +142,7 @@ returns-3 : tie.Need-returns-3 Inv-loop μ-loop
 unfolding codeVerdict
 returns-3 c =
     let v = c .before .before in
-    let a = start v in (
-      v .loop .inv .0,
-      told v _ (all-are-right (a .args .n) (a .args .values .now) (a .args .col .now) (a .args .left .now) (a .args .right .now) (a .args .lengths .now) (a .args .numbers .now) _ _ _ _ (v .loop .inv .1) (c .before .loop-test .left) (c .if3 .taken)),
-    )
+    (v .loop .inv .0, told v _ (at-the-end v (c .before .loop-test .left) true (eq-eqb _ _ (c .if3 .taken))))
 
 add-t31 : tie.Need-add-t31 Inv-loop μ-loop
 add-t31 c =
@@ -143,10 +153,7 @@ returns-4 : tie.Need-returns-4 Inv-loop μ-loop
 unfolding codeVerdict
 returns-4 c =
     let v = c .before .before in
-    let a = start v in (
-      v .loop .inv .0,
-      told v _ (stops-early (a .args .n) (a .args .values .now) (a .args .col .now) (a .args .left .now) (a .args .right .now) (a .args .lengths .now) (a .args .numbers .now) _ _ _ _ (v .loop .inv .1) (c .before .loop-test .left) (c .if3 .left)),
-    )
+    (v .loop .inv .0, told v _ (at-the-end v (c .before .loop-test .left) false (ne-eqb _ _ (c .if3 .left))))
 
 pub judge-spec : {M : Type 1} → statement M
 judge-spec =
