@@ -1,8 +1,15 @@
 // The questions and the answer of a column search: what the single calls (crates/store_searches), the jobs of a batch (crates/store_batches) and the first call of a held search (crates/store_held) share.
+// And the supercode search over arrays and masks that are lent, for those who search many columns.
 ghost use mathlib.Core.Path.{_≡_};
+ghost use Rattle.column.specs.Shape.{short};
+ghost use Rattle.trellis.specs.Values.{levelValues};
+ghost use Rattle.trellis.specs.Demand.{supercode};
+ghost use Rattle.trellis.specs.TwoWords.{off, searchedBy};
+ghost use Rattle.stack.specs.Places.{Room};
+ghost use Rattle.search.specs.Outcomes.{SupercodesBelow};
 ghost use Rattle.list_of_two.specs.Ways.{chosen};
 ghost use Rattle.questions.specs.declared.Outcome.the-variants.{Done, Refused};
-ghost use Rattle.searches.specs.Searches.{askSearch, asAnswer};
+ghost use Rattle.searches.specs.Searches.{Allowed, askSearch, outcomeAnswer, asAnswer};
 use questions::Outcome;
 use search::SearchOutcome;
 
@@ -46,4 +53,38 @@ pub fn as_answer(found: SearchOutcome) -> SearchAnswer
         SearchOutcome::Found { word, count, low } => SearchAnswer::Found(word, count, low),
         SearchOutcome::Spent => SearchAnswer::Refused(9, 0),
     }
+}
+
+// The supercode search of a column whose questions are all answered yes, over arrays and masks that are lent; the arrays may hold anything.
+pub fn search_supercodes(
+    sums: &mut [i16; 2002],
+    lens: &mut [u8; 2002],
+    bits: &mut [u64; 2002],
+    masks: &[[u64; 30]; 8],
+    column: &[u8],
+    level: usize,
+    limit: u64,
+) -> SearchAnswer
+    requires { ⌜ Room (now sums) (now lens) (now bits) × SupercodesBelow 4 (now masks) × Allowed level (now column) limit ⌝ }
+    ensures { λ r. ⌜ Room (now (sums .exit)) (now (lens .exit)) (now (bits .exit)) ⌝ }
+    ensures { λ r. ⌜ r ≡ outcomeAnswer (searchedBy off supercode short (levelValues level) limit (now (column .entry)) level) ⌝ }
+{
+    let values = search::short_page::level_values(level);
+    let way = list_of_two::way_of(limit, true, false, 0);
+    // without list of two no hard reading is made, and these are not read
+    let checks = [0u64; 30];
+    let agreeing = [0i16; 8];
+    let found = list_of_two::search_by(
+        sums,
+        lens,
+        bits,
+        column,
+        &masks[level],
+        &masks[level + 4],
+        &values,
+        &checks,
+        &agreeing,
+        way,
+    );
+    as_answer(found)
 }

@@ -4,13 +4,11 @@
 // The loop over the list only hands each job on and puts it back: what is proved of it by hand is no more than that.
 ghost use mathlib.Core.Path.{_≡_};
 ghost use mathlib.Core.List.{map};
-ghost use Rattle.column.specs.Shape.{short};
-ghost use Rattle.trellis.specs.Values.{levelValues};
 ghost use Rattle.trellis.specs.Demand.{supercode};
-ghost use Rattle.trellis.specs.TwoWords.{off, searchedBy};
+ghost use Rattle.trellis.specs.TwoWords.{off};
 ghost use Rattle.stack.specs.Places.{Room};
 ghost use Rattle.search.specs.Outcomes.{SupercodesBelow};
-ghost use Rattle.searches.specs.Searches.{Allowed, searchAnswer, outcomeAnswer};
+ghost use Rattle.searches.specs.Searches.{searchAnswer};
 ghost use Rattle.store_batches.specs.Jobs.{jobAnswer, noted, doneJob};
 use questions::Outcome;
 use searches::SearchAnswer;
@@ -25,40 +23,6 @@ pub struct Job {
     pub word: u64,
     pub count: u64,
     pub low: i64,
-}
-
-// The supercode search of a column whose questions are all answered yes.
-fn search_allowed(
-    sums: &mut [i16; 2002],
-    lens: &mut [u8; 2002],
-    bits: &mut [u64; 2002],
-    masks: &[[u64; 30]; 8],
-    column: &[u8],
-    level: usize,
-    limit: u64,
-) -> SearchAnswer
-    requires { ⌜ Room (now sums) (now lens) (now bits) × SupercodesBelow 4 (now masks) × Allowed level (now column) limit ⌝ }
-    ensures { λ r. ⌜ Room (now (sums .exit)) (now (lens .exit)) (now (bits .exit)) ⌝ }
-    ensures { λ r. ⌜ r ≡ outcomeAnswer (searchedBy off supercode short (levelValues level) limit (now (column .entry)) level) ⌝ }
-{
-    let values = search::short_page::level_values(level);
-    let way = list_of_two::way_of(limit, true, false, 0);
-    // without list of two no hard reading is made, and these are not read
-    let checks = [0u64; 30];
-    let agreeing = [0i16; 8];
-    let found = list_of_two::search_by(
-        sums,
-        lens,
-        bits,
-        column,
-        &masks[level],
-        &masks[level + 4],
-        &values,
-        &checks,
-        &agreeing,
-        way,
-    );
-    searches::as_answer(found)
 }
 
 // What the single supercode call answers, over arrays and masks that are lent.
@@ -76,7 +40,15 @@ fn search_column(
     ensures { λ r. ⌜ r ≡ searchAnswer off supercode level (now (column .entry)) limit ⌝ }
 {
     match searches::asked(level, column, limit, false, 0) {
-        Outcome::Done => search_allowed(sums, lens, bits, masks, column, level as usize, limit),
+        Outcome::Done => searches::search_supercodes(
+            sums,
+            lens,
+            bits,
+            masks,
+            column,
+            level as usize,
+            limit,
+        ),
         Outcome::Refused(n, p) => SearchAnswer::Refused(n, p),
     }
 }

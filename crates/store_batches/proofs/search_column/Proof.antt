@@ -14,8 +14,8 @@ asked-requires c κs = search needs
 enum-told : tie.Need-enum-told
 enum-told c = search needs
 
-search-allowed-requires : tie.Need-search-allowed-requires
-search-allowed-requires c κs =
+search-supercodes-requires : tie.Need-search-supercodes-requires
+search-supercodes-requires c κs =
     let told = c .before .before .before in
     let asked = told .before .before in
     let start = asked .before .before in
@@ -29,7 +29,7 @@ returns c =
     let told = c .before .before .before .before in
     let asked = told .before .before in
     let start = asked .before .before in
-    (c .search-allowed .ensures .0, c .search-allowed .ensures .1 ∙ sym (settled off (start .args .level) (start .args .column .now) (start .args .limit) Refused _ Done (sym (told .enum-told .given .1) ∙ asked .asked .ensures)))
+    (c .search-supercodes .ensures .0, c .search-supercodes .ensures .1 ∙ sym (settled off (start .args .level) (start .args .column .now) (start .args .limit) Refused _ Done (sym (told .enum-told .given .1) ∙ asked .asked .ensures)))
 
 returns-2 : tie.Need-returns-2
 returns-2 c =
@@ -40,4 +40,4 @@ returns-2 c =
 pub search-column-spec : {M : Type 1} → statement M
 search-column-spec =
     tie.close
-    (tie.spec asked-requires enum-told search-allowed-requires enum-known-n returns returns-2)
+    (tie.spec asked-requires enum-told search-supercodes-requires enum-known-n returns returns-2)

@@ -1,4 +1,4 @@
--- `store_batches::search_allowed` meets its contract: the masks of the level are those of its supercodes, and no second word is sought. Assumes nothing.
+-- `searches::search_supercodes` meets its contract: the masks of the level are those of its supercodes, and no second word is sought. Assumes nothing.
 use mathlib.Core.Bool.{true≢false}
 use mathlib.Core.Path.{sym, _∙_, subst⁻¹}
 use Prim.Native.Nat.{ℕ, _≤_}
@@ -6,10 +6,10 @@ use Rattle.trellis.specs.TwoWords.{off}
 use Rattle.trellis.specs.Demand.{supercode}
 use Rattle.search.proofs.Tables.{supercode-tables}
 use Rattle.search.proofs.ShortSearch.{column-searchable}
 use Rattle.searches.proofs.Outcomes.{answered-as, by-its-way}
 use borrow.Author.Needs.{needs}
-use Rattle.store_batches.proofs.search_allowed.Statement.{statement}
-use Rattle.store_batches.proofs.search_allowed.Tie as tie
+use Rattle.searches.proofs.search_supercodes.Statement.{statement}
+use Rattle.searches.proofs.search_supercodes.Tie as tie
 
 level-values-requires : tie.Need-level-values-requires
 level-values-requires c κs = search needs
@@ -66,8 +66,8 @@ returns c =
           ∙ by-its-way (way .way-of .result) off (start .args .limit) (is .0 .2) (is .0 .0) supercode (start .args .column .now) (start .args .level),
     )
 
-pub search-allowed-spec : {M : Type 1} → statement M
-search-allowed-spec =
+pub search-supercodes-spec : {M : Type 1} → statement M
+search-supercodes-spec =
     tie.close
     (tie.spec
     level-values-requires
