@@ -1,12 +1,13 @@
 -- Text put into a buffer, byte after byte and piece after piece. Assumes nothing.
 use mathlib.Core.Path.{_≡_, refl, ap, _∙_, sym}
 use mathlib.Core.List.{List, [], _∷_, _++_, append-assoc, append-nil}
-use Prim.Native.Nat.{ℕ, suc, _+_, _<_, _≤_}
+use Prim.Native.Nat.{ℕ, suc, _+_, _*_, _<_, _≤_}
 use native.Mathlib.Numerals.{add-one}
 use native.Mathlib.Omega.{arith}
 use lib.Dec.{T, leb, leb→le}
 use lib.ListN.{length, getD, set, take}
-use lib.Seq.{take-all, take-suc, take-suc-set}
+use lib.Seq.{length-take-le, take-all, take-suc, take-suc-set}
+use Rattle.io.specs.Counts.{Counts}
 use Rattle.listing.specs.Text.{Appended}
 
 -- one more byte of a piece
@@ -49,6 +50,19 @@ then {at} {s = s} {t = t} {old = old} p q = record {
 pub as-text : {at r a b : ℕ} {s t old new : List ℕ} → s ≡ t → a ≤ b → Appended at s a old r new → Appended at t b old r new
 as-text {at} {old = old} e h p = record { bytes = p .bytes ∙ ap (λ (l : List ℕ). take at old ++ l) e; reach = omega (arith, p .reach); size = p .size }
 
+-- lines one behind the other, each of at most m bytes: one line more
+pub one-line-more : {at end r : ℕ} {line old mid new : List ℕ} (text : ℕ → List ℕ) (m n : ℕ) → text (suc n) ≡ text n ++ line
+    → Appended at (text n) (m * n) old end mid → Appended end line m mid r new → Appended at (text (n + 1)) (m * (n + 1)) old r new
+one-line-more text m n next before one =
+    let last : text (suc n) ≡ text (n + 1) = ap text (sym (add-one n)) in
+    as-text (sym next ∙ last) (omega arith) (then before one)
+
 -- behind a text that leaves b of the room there are b places
 pub room-left : {r a room : ℕ} {s old mid : List ℕ} (b : ℕ) → Appended 0 s a old r mid → room ≤ length old → T (leb (a + b) room) → r + b ≤ length mid
 room-left {a = a} {room = room} b p h t = let fits : a + b ≤ room = leb→le (a + b) room t in omega (arith, fits, p .reach, p .size, h)
+
+-- text at the front of a buffer with room for it
+pub counted : {r most : ℕ} {text old new : List ℕ} → Appended 0 text most old r new → most ≤ length old → Counts r new
+counted {r} {new = new} p room =
+    let inside : r ≤ length new = omega (arith, p .reach, p .size, room) in
+    (inside, sym (length-take-le r new inside))

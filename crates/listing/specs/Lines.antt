@@ -1,4 +1,4 @@
--- 01: "The station's interface", and 02, point 6: the lines that the program prints. Assumes nothing.
+-- 01: "The station's interface", and 02, points 6 and 14: the lines that the programs print. Assumes nothing.
 use mathlib.Core.List.{List, [], _++_}
 use Prim.Native.Nat.{ℕ, zero, suc}
 use lib.ListN.{getD}
@@ -24,6 +24,11 @@ dataLine bytes = ascii "data " ++ hexOf bytes ++ ascii "\n"
 -- "A refusal prints only `page refused N place P`."
 unfoldable pub refusedLine : ℕ → ℕ → List ℕ
 refusedLine number place = ascii "page refused " ++ decimal number ++ ascii " place " ++ decimal place ++ ascii "\n"
+
+-- 02, point 14: "`level 0 ones 0 zero 1 other 0 spent 0`"
+unfoldable pub censusLine : ℕ → ℕ → ℕ → ℕ → ℕ → List ℕ
+censusLine level ones zeros others spent =
+    ascii "level " ++ decimal level ++ ascii " ones " ++ decimal ones ++ ascii " zero " ++ decimal zeros ++ ascii " other " ++ decimal others ++ ascii " spent " ++ decimal spent ++ ascii "\n"
 
 -- the lines of the levels below n, from the lists of their totals and marks
 unfoldable pub levelLines : ℕ → List ℕ → List ℕ → List ℕ → List ℕ → List ℕ

@@ -1,10 +1,12 @@
-// Lines of text in a buffer: decimal and hexadecimal numbers, and the lines of a page's listing (01, "The station's interface"; 02, point 6).
+// Lines of text in a buffer: decimal and hexadecimal numbers, the lines of a page's listing (01, "The station's interface"; 02, point 6) and of a census (02, point 14); and their writing.
 ghost use mathlib.Core.Path.{_≡_};
+ghost use mathlib.Core.List.{_++_};
 ghost use Prim.Native.Nat.{_+_, _≤_, _<_};
 ghost use lib.ListN.{length, drop};
 ghost use Rattle.io.specs.Digits.{glyph};
 ghost use Rattle.listing.specs.Text.{decimal, hexOf, hexMark, lineLength, Appended};
-ghost use Rattle.listing.specs.Lines.{okLine, columnsText, levelLine, levelLines, dataLine, refusedLine};
+ghost use Rattle.listing.specs.Lines.{okLine, columnsText, levelLine, levelLines, dataLine, refusedLine, censusLine};
+use libc::STDOUT_FILENO;
 
 // ---- text behind the first `at` bytes of a buffer; each gives the place where it ends
 
@@ -27,6 +29,15 @@ fn append_decimal(n: u64, out: &mut [u8], at: usize) -> usize
     let mut digits = [0u8; 20];
     let k = io::decimal(n, &mut digits);
     append(&digits[..k], out, at)
+}
+
+// Words, and a decimal number behind them.
+fn append_number(words: &[u8], n: u64, out: &mut [u8], at: usize) -> usize
+    requires { ⌜ at + length (now words) + 20 ≤ length (now out) ⌝ }
+    ensures { λ r. ⌜ Appended at (now (words .entry) ++ decimal n) (length (now (words .entry)) + 20) (now (out .entry)) r (now (out .exit)) ⌝ }
+{
+    let number = append(words, out, at);
+    append_decimal(n, out, number)
 }
 
 // The digit of a number below 16.
@@ -77,8 +88,7 @@ pub fn append_ok(steps: u64, out: &mut [u8], at: usize) -> usize
     requires { ⌜ at + 35 ≤ length (now out) ⌝ }
     ensures { λ r. ⌜ Appended at (okLine steps) 35 (now (out .entry)) r (now (out .exit)) ⌝ }
 {
-    let number = append(b"page ok steps ", out, at);
-    let end = append_decimal(steps, out, number);
+    let end = append_number(b"page ok steps ", steps, out, at);
     append(b"\n", out, end)
 }
 
@@ -94,8 +104,7 @@ fn append_level(
     requires { ⌜ at + 118 ≤ length (now out) ⌝ }
     ensures { λ r. ⌜ Appended at (levelLine level changed «changed_mark» erased «erased_mark») 118 (now (out .entry)) r (now (out .exit)) ⌝ }
 {
-    let number = append(b"level ", out, at);
-    let numbered = append_decimal(level, out, number);
+    let numbered = append_number(b"level ", level, out, at);
     let first = append(b" changed ", out, numbered);
     let counted = append_columns(changed, changed_mark, out, first);
     let second = append(b" erased ", out, counted);
@@ -141,15 +150,34 @@ pub fn append_refused(number: u64, place: u64, out: &mut [u8], at: usize) -> usi
     requires { ⌜ at + 61 ≤ length (now out) ⌝ }
     ensures { λ r. ⌜ Appended at (refusedLine number place) 61 (now (out .entry)) r (now (out .exit)) ⌝ }
 {
-    let first = append(b"page refused ", out, at);
-    let numbered = append_decimal(number, out, first);
-    let second = append(b" place ", out, numbered);
-    let end = append_decimal(place, out, second);
+    let numbered = append_number(b"page refused ", number, out, at);
+    let end = append_number(b" place ", place, out, numbered);
+    append(b"\n", out, end)
+}
+
+// The line of a level and a number of ones: how many patterns end in the zero word, in another word, and spent.
+pub fn append_census(
+    level: u64,
+    ones: u64,
+    zero: u64,
+    other: u64,
+    spent: u64,
+    out: &mut [u8],
+    at: usize,
+) -> usize
+    requires { ⌜ at + 133 ≤ length (now out) ⌝ }
+    ensures { λ r. ⌜ Appended at (censusLine level ones zero other spent) 133 (now (out .entry)) r (now (out .exit)) ⌝ }
+{
+    let first = append_number(b"level ", level, out, at);
+    let second = append_number(b" ones ", ones, out, first);
+    let third = append_number(b" zero ", zero, out, second);
+    let fourth = append_number(b" other ", other, out, third);
+    let end = append_number(b" spent ", spent, out, fourth);
     append(b"\n", out, end)
 }
 
 // Where the line that begins at `from` ends, behind its newline.
-pub fn line_end(text: &[u8], from: usize) -> usize
+fn line_end(text: &[u8], from: usize) -> usize
     requires { ⌜ from < length (now text) ⌝ }
     ensures { λ r. ⌜ r ≡ from + lineLength (drop from (now (text .entry))) ⌝ }
     ensures { λ r. ⌜ (from < r) × (r ≤ length (now (text .entry))) ⌝ }
@@ -162,4 +190,14 @@ pub fn line_end(text: &[u8], from: usize) -> usize
         i += 1;
     }
     i
+}
+
+// Writes a text to standard output, each line by a write of its own.
+pub fn write_lines(text: &[u8]) {
+    let mut start = 0;
+    while start < text.len() {
+        let end = line_end(text, start);
+        io::write_all(STDOUT_FILENO, &text[start..end]);
+        start = end;
+    }
 }

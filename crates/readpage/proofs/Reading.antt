@@ -2,12 +2,9 @@
 use mathlib.Core.Path.{_≡_, ap, _∙_, sym}
 use mathlib.Core.Bool.{true}
 use mathlib.Core.List.{List}
-use Prim.Native.Nat.{ℕ, _≤_}
-use native.Mathlib.Omega.{arith}
+use Prim.Native.Nat.{ℕ}
 use lib.Dec.{leb}
-use lib.ListN.{length, replicate}
-use lib.Seq.{length-take-le}
-use Rattle.io.specs.Counts.{Counts}
+use lib.ListN.{replicate}
 use Rattle.trellis.specs.Demand.{supercode}
 use Rattle.trellis.specs.TwoWords.{off}
 use Rattle.dump.specs.Dump.{softOf}
@@ -19,7 +16,6 @@ use Rattle.questions.specs.declared.Outcome.{Outcome}
 use Rattle.questions.specs.declared.Outcome.the-variants.{Done, Refused}
 use Rattle.store_dumps.proofs.DumpAnswers.{read-passes}
 use Rattle.questions.proofs.AllInRange.{no-value-above}
-use Rattle.listing.specs.Text.{Appended}
 use Rattle.listing.specs.Lines.{refusedLine}
 use Rattle.readpage.specs.Report.{decodedText, readText, outputOf}
 
@@ -33,12 +29,6 @@ pub soft-in-range : (dump old new : List ℕ) (r : Outcome) → Filled (readAnsw
 soft-in-range dump old new r filled done =
     let page = read-passes dump old (sym (filled .answer) ∙ done) .values in
     ap (λ (l : List ℕ). leb 1890 (firstAbove l 7)) (soft-read filled done) ∙ no-value-above (softOf dump) 1890 7 (page .size) (page .range)
-
--- text at the front of a buffer with room for it
-pub counted : {r most : ℕ} {text old new : List ℕ} → Appended 0 text most old r new → most ≤ length old → Counts r new
-counted {r} {new = new} p room =
-    let inside : r ≤ length new = omega (arith, p .reach, p .size, room) in
-    (inside, sym (length-take-le r new inside))
 
 pub output-read : (dump new : List ℕ) (r : Outcome) → Filled (readAnswer dump (replicate 1890 0)) (softOf dump) (replicate 1890 0) r new → r ≡ Done
     → decodedText (decodedPage off supercode new defaultLimit) ≡ outputOf dump

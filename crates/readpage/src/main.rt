@@ -14,7 +14,6 @@ ghost use Rattle.listing.specs.Text.{Appended};
 ghost use Rattle.readpage.specs.Report.{decodedText};
 ghost use Rattle.readpage.specs.Input.{PrintedFor};
 use libc::STDIN_FILENO;
-use libc::STDOUT_FILENO;
 use questions::Outcome;
 use store_pages::DEFAULT_LIMIT;
 
@@ -55,12 +54,7 @@ fn output_of(input: &[u8], n: usize, out: &mut [u8]) -> usize
 fn write_output(input: &[u8], n: usize, text: &[u8])
     requires { ⌜ PrintedFor (now input) n (now text) ⌝ }
 {
-    let mut start = 0;
-    while start < text.len() {
-        let end = listing::line_end(text, start);
-        io::write_all(STDOUT_FILENO, &text[start..end]);
-        start = end;
-    }
+    listing::write_lines(text);
 }
 
 // One byte more than a dump is read, so that a longer input shows.

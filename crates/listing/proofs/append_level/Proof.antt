@@ -6,14 +6,20 @@ use Rattle.listing.proofs.Appended.{then}
 use Rattle.listing.proofs.append_level.Statement.{statement}
 use Rattle.listing.proofs.append_level.Tie as tie
 
+slice-aggregate-append-number : tie.Need-slice-aggregate-append-number
+slice-aggregate-append-number c = search needs
+
+append-number-requires : tie.Need-append-number-requires
+append-number-requires c κs = search needs
+
 slice-aggregate-append : tie.Need-slice-aggregate-append
 slice-aggregate-append c = search needs
 
 append-requires : tie.Need-append-requires
 append-requires c κs = search needs
 
-append-decimal-requires : tie.Need-append-decimal-requires
-append-decimal-requires c κs = search needs
+append-columns-requires : tie.Need-append-columns-requires
+append-columns-requires c κs = search needs
 
 slice-aggregate-append-2 : tie.Need-slice-aggregate-append-2
 slice-aggregate-append-2 c = search needs
@@ -21,23 +27,14 @@ slice-aggregate-append-2 c = search needs
 append-requires-2 : tie.Need-append-requires-2
 append-requires-2 c κs = search needs
 
-append-columns-requires : tie.Need-append-columns-requires
-append-columns-requires c κs = search needs
+append-columns-requires-2 : tie.Need-append-columns-requires-2
+append-columns-requires-2 c κs = search needs
 
 slice-aggregate-append-3 : tie.Need-slice-aggregate-append-3
 slice-aggregate-append-3 c = search needs
 
 append-requires-3 : tie.Need-append-requires-3
 append-requires-3 c κs = search needs
-
-append-columns-requires-2 : tie.Need-append-columns-requires-2
-append-columns-requires-2 c κs = search needs
-
-slice-aggregate-append-4 : tie.Need-slice-aggregate-append-4
-slice-aggregate-append-4 c = search needs
-
-append-requires-4 : tie.Need-append-requires-4
-append-requires-4 c κs = search needs
 
 same-length : tie.Need-same-length
 same-length c = search needs
@@ -51,25 +48,22 @@ returns c =
     let changed = between .before .before .before .before .before in
     let before = changed .before .before .before .before in
     let level = before .before .before .before .before .before in
-    let words = level .before .before .before .before in
-    let numbered = then (words .append .ensures) (level .append-decimal .ensures) in
-    let first = then (then numbered (before .append2 .ensures)) (changed .append-columns .ensures) in
-    then (then (then first (between .append3 .ensures)) (erased .append-columns2 .ensures)) (end .append4 .ensures)
+    let first = then (then (level .append-number .ensures) (before .append .ensures)) (changed .append-columns .ensures) in
+    then (then (then first (between .append2 .ensures)) (erased .append-columns2 .ensures)) (end .append3 .ensures)
 
 pub append-level-spec : {M : Type 1} → statement M
 append-level-spec =
     tie.close
     (tie.spec
+    slice-aggregate-append-number
+    append-number-requires
     slice-aggregate-append
     append-requires
-    append-decimal-requires
+    append-columns-requires
     slice-aggregate-append-2
     append-requires-2
-    append-columns-requires
+    append-columns-requires-2
     slice-aggregate-append-3
     append-requires-3
-    append-columns-requires-2
-    slice-aggregate-append-4
-    append-requires-4
     same-length
     returns)

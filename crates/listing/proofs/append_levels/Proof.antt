@@ -1,12 +1,12 @@
 -- `listing::append_levels` meets its contract: the lines of the levels passed stand one behind the other. Assumes nothing.
-use Prim.Native.Nat.{ℕ, suc, _+_, _-_, _*_, _≤_}
-use native.Mathlib.Numerals.{add-one}
+use Prim.Native.Nat.{ℕ, _-_, _*_, _≤_}
 use native.Mathlib.Omega.{arith}
 use borrow.Author.Needs.{needs}
-use mathlib.Core.Path.{_≡_, sym, ap}
+use mathlib.Core.Path.{_≡_, refl, ap}
+use mathlib.Core.List.{List}
 use Rattle.listing.specs.Text.{Appended}
 use Rattle.listing.specs.Lines.{levelLines}
-use Rattle.listing.proofs.Appended.{appended-none, then, as-text}
+use Rattle.listing.proofs.Appended.{appended-none, as-text, one-line-more}
 use Rattle.listing.proofs.append_levels.Statement.{statement}
 use Rattle.listing.proofs.append_levels.Tie as tie
 
@@ -57,10 +57,8 @@ loop-again c =
     let turn = c .before .before .before .before .before in
     let a = turn .before .before .args in
     let level = turn .loop .level in
-    let one = c .before .before .append-level .ensures in
-    let room : 118 * level + 118 ≤ 118 * (level + 1) = omega arith in
-    let next : levelLines (suc level) (a .t1) (a .t2) (a .t3) (a .t4) ≡ levelLines (level + 1) (a .t1) (a .t2) (a .t3) (a .t4) = ap (λ (k : ℕ). levelLines k (a .t1) (a .t2) (a .t3) (a .t4)) (sym (add-one level)) in
-    (omega (arith, c .before .before .before .before .loop-test .taken), as-text next room (then (turn .loop .inv .1) one))
+    let lines : ℕ → List ℕ = λ k. levelLines k (a .t1) (a .t2) (a .t3) (a .t4) in
+    (omega (arith, c .before .before .before .before .loop-test .taken), one-line-more lines 118 level refl (turn .loop .inv .1) (c .before .before .append-level .ensures))
 
 same-length : tie.Need-same-length Inv-loop μ-loop
 same-length c = c .before .loop .inv .1 .size

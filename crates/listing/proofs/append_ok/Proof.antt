@@ -6,20 +6,17 @@ use Rattle.listing.proofs.Appended.{then}
 use Rattle.listing.proofs.append_ok.Statement.{statement}
 use Rattle.listing.proofs.append_ok.Tie as tie
 
+slice-aggregate-append-number : tie.Need-slice-aggregate-append-number
+slice-aggregate-append-number c = search needs
+
+append-number-requires : tie.Need-append-number-requires
+append-number-requires c κs = search needs
+
 slice-aggregate-append : tie.Need-slice-aggregate-append
 slice-aggregate-append c = search needs
 
 append-requires : tie.Need-append-requires
 append-requires c κs = search needs
-
-append-decimal-requires : tie.Need-append-decimal-requires
-append-decimal-requires c κs = search needs
-
-slice-aggregate-append-2 : tie.Need-slice-aggregate-append-2
-slice-aggregate-append-2 c = search needs
-
-append-requires-2 : tie.Need-append-requires-2
-append-requires-2 c κs = search needs
 
 same-length : tie.Need-same-length
 same-length c = search needs
@@ -28,18 +25,16 @@ returns : tie.Need-returns
 unfolding ascii okLine
 returns c =
     let end = c .before .before in
-    let number = end .before .before .before .before .before in
-    let words = number .before .before .before .before in
-    then (then (words .append .ensures) (number .append-decimal .ensures)) (end .append2 .ensures)
+    let steps = end .before .before .before .before .before in
+    then (steps .append-number .ensures) (end .append .ensures)
 
 pub append-ok-spec : {M : Type 1} → statement M
 append-ok-spec =
     tie.close
     (tie.spec
+    slice-aggregate-append-number
+    append-number-requires
     slice-aggregate-append
     append-requires
-    append-decimal-requires
-    slice-aggregate-append-2
-    append-requires-2
     same-length
     returns)

@@ -3,8 +3,9 @@ use mathlib.Core.Path.{_∙_}
 use native.Mathlib.Omega.{arith}
 use borrow.Author.Needs.{needs}
 use lib.ListN.{take}
+use Rattle.listing.proofs.Appended.{counted}
 use Rattle.readpage.proofs.Input.{printed-for}
-use Rattle.readpage.proofs.Reading.{soft-in-range, counted, output-read, output-refused}
+use Rattle.readpage.proofs.Reading.{soft-in-range, output-read, output-refused}
 use Rattle.readpage.proofs.output_of.Statement.{statement}
 use Rattle.readpage.proofs.output_of.Tie as tie
 

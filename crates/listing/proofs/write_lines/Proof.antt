@@ -1,15 +1,15 @@
--- `readpage::write_output` ends: each line is longer than nothing, and the measure is what is left of the text. Assumes nothing.
+-- `listing::write_lines` ends: each line is longer than nothing, and the measure is what is left of the text. Assumes nothing.
 use Prim.Native.Nat.{_≤_, _-_}
 use borrow.Author.Needs.{needs}
 use lib.ListN.{length}
-use Rattle.readpage.proofs.write_output.Statement.{statement}
-use Rattle.readpage.proofs.write_output.Tie as tie
+use Rattle.listing.proofs.write_lines.Statement.{statement}
+use Rattle.listing.proofs.write_lines.Tie as tie
 
 abbrev Inv-loop : tie.InvT-loop
-Inv-loop input n text start₀ start = start ≤ length text
+Inv-loop text start₀ start = start ≤ length text
 
 abbrev μ-loop : tie.MeasureT-loop
-μ-loop input n text start₀ start = length text - start
+μ-loop text start₀ start = length text - start
 
 loop-holds : tie.Need-loop-holds Inv-loop μ-loop
 loop-holds c = search needs
@@ -38,8 +38,8 @@ loop-again c = search needs
 returns : tie.Need-returns Inv-loop μ-loop
 returns c = search needs
 
-pub write-output-spec : {M : Type 1} → statement M
-write-output-spec =
+pub write-lines-spec : {M : Type 1} → statement M
+write-lines-spec =
     tie.close
     (tie.spec
     Inv-loop
