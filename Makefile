@@ -17,6 +17,7 @@ test: tools listed
 	@tests/run-checker
 	@tests/run-station
 	@tests/run-readpage
+	@tests/run-census
 	@tests/run-documents
 	@RT_JOBS=6 rt ci
 

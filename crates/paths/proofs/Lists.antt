@@ -19,6 +19,21 @@ pub of-map : {A B : Type 0} (f : A → B) (y : B) (l : List A) → Mem y (map f 
 of-map f y (x ∷ l) (inl e) = (x, e, inl refl)
 of-map f y (x ∷ l) (inr m) = let r = of-map f y l m in (r .0, r .1, inr (r .2))
 
+-- what keeps different things different makes no repeats
+pub map-no-repeats : {A B : Type 0} (f : A → B) (l : List A) → ((x y : A) → f x ≡ f y → x ≡ y) → NoRepeats l → NoRepeats (map f l)
+map-no-repeats f [] apart n = tt
+map-no-repeats f (x ∷ l) apart n = (λ m. let r = of-map f (f x) l m in n .0 (rw (apart x (r .0) (r .1)) (r .2)), map-no-repeats f l apart (n .1))
+
+pub filter-map : {A B : Type 0} (test : B → Bool) (f : A → B) (l : List A) → filter test (map f l) ≡ map f (filter (λ x. test (f x)) l)
+unfolding filter
+filter-map test f [] = refl
+filter-map test f (x ∷ l) = go (test (f x)) (filter-map test f l)
+  where
+    go : (b : Bool) → filter test (map f l) ≡ map f (filter (λ y. test (f y)) l)
+        → cond b (f x ∷ filter test (map f l)) (filter test (map f l)) ≡ map f (cond b (x ∷ filter (λ y. test (f y)) l) (filter (λ y. test (f y)) l))
+    go true ih = ap (_∷_ (f x)) ih
+    go false ih = ih
+
 module _ {A : Type 0} where
   pub in-append : (x : A) (a b : List A) → Mem x a ⊎ Mem x b → Mem x (a ++ b)
   in-append x [] b (inr m) = m
@@ -88,6 +103,15 @@ module _ {A : Type 0} where
     where
       go : (b : Bool) → NoRepeats (filter test xs) → NoRepeats (cond b (x ∷ filter test xs) (filter test xs))
       go true ih = (λ m. n .0 (of-filter test xs x m .0), ih)
+      go false ih = ih
+
+  pub filter-append : (test : A → Bool) (a b : List A) → filter test (a ++ b) ≡ filter test a ++ filter test b
+  unfolding filter
+  filter-append test [] b = refl
+  filter-append test (x ∷ a) b = go (test x) (filter-append test a b)
+    where
+      go : (c : Bool) → filter test (a ++ b) ≡ filter test a ++ filter test b → cond c (x ∷ filter test (a ++ b)) (filter test (a ++ b)) ≡ cond c (x ∷ filter test a) (filter test a) ++ filter test b
+      go true ih = ap (_∷_ x) ih
       go false ih = ih
 
   -- where a test is one of two that are never both true, the numbers that pass add up
