@@ -1,4 +1,4 @@
-/* What tests/chip.c, tests/held.c, tests/checker.c and bench/listings.c share: a plain model of the searches with so many places on their stack, columns of several kinds, and the count of checks. */
+/* What tests/chip.c, tests/held.c, tests/checker.c, tests/census.c and bench/listings.c share: a plain model of the searches with so many places on their stack, columns of several kinds, and the count of checks. */
 #ifndef MODEL_H
 #define MODEL_H
 #include "entries.h"

@@ -1,5 +1,5 @@
 -- The census of columns that begin alike: by the next bit, and where nothing is left to flip. Assumes nothing.
-use mathlib.Core.Bool.{true, false}
+use mathlib.Core.Bool.{true, false, cond}
 use mathlib.Core.List.{List, [], _∷_, _++_, map, append-assoc}
 use mathlib.Core.Path.{_≡_, refl, sym, ap, ap₂, _∙_, fun-ext}
 use Prim.Native.Nat.{ℕ, zero, suc, _+_, _-_, _^_, _<_, _≤_}
@@ -10,37 +10,34 @@ use native.Mathlib.Omega.{arith}
 use lib.ListN.{length, getD, set, length-set, take, drop, replicate, take-append-drop, length-drop, length-replicate, getD-replicate}
 use lib.Seq.{ext-getD, getD-drop, getD-set-same, getD-set-other, take-suc, take-suc-set}
 use Rattle.paths.specs.Lists.{filter}
+use Rattle.paths.proofs.Lists.{map-replicate}
 use Rattle.census.specs.Patterns.{Pattern, patterns}
-use Rattle.census.specs.Census.{softOf, endsIn, numberOf, totals, together, census, censusBehind, UnflippedFrom}
+use Rattle.census.specs.Census.{softColumn, endsIn, numberOf, totals, together, census, censusBehind, UnflippedFrom}
 use Rattle.census.specs.declared.Totals.{Totals}
 use Rattle.census.proofs.Patterns.{as-many-as-n-over-k, at-most-all}
 use Rattle.census.proofs.Counting.{totals-append, totals-map, totals-add-up}
 
 -- the patterns whose first bit gives the soft value q are behind one value more
-one-more : (level : ℕ) (values : List ℕ) (q : ℕ) (f : Pattern → Pattern) → ((p : Pattern) → softOf (f p) ≡ q ∷ softOf p) → (ps : List Pattern)
-    → totals (λ p. endsIn level (values ++ softOf p)) (map f ps) ≡ totals (λ p. endsIn level ((values ++ (q ∷ [])) ++ softOf p)) ps
+one-more : (level : ℕ) (values : List ℕ) (q : ℕ) (f : Pattern → Pattern) → ((p : Pattern) → softColumn (f p) ≡ q ∷ softColumn p) → (ps : List Pattern)
+    → totals (λ p. endsIn level (values ++ softColumn p)) (map f ps) ≡ totals (λ p. endsIn level ((values ++ (q ∷ [])) ++ softColumn p)) ps
 one-more level values q f is ps =
-    totals-map (λ p. endsIn level (values ++ softOf p)) f ps
-    ∙ ap (λ (g : Pattern → List ℕ). totals (λ p. endsIn level (g p)) ps) (fun-ext (λ p. ap (λ (l : List ℕ). values ++ l) (is p) ∙ sym (append-assoc values (q ∷ []) (softOf p))))
-
--- zeros are read where nothing is flipped
-soft-zeros : (n : ℕ) → softOf (replicate n false) ≡ replicate n 0
-unfolding softOf
-soft-zeros zero = refl
-soft-zeros (suc n) = ap (_∷_ 0) (soft-zeros n)
+    totals-map (λ p. endsIn level (values ++ softColumn p)) f ps
+    ∙ ap (λ (g : Pattern → List ℕ). totals (λ p. endsIn level (g p)) ps) (fun-ext (λ p. ap (λ (l : List ℕ). values ++ l) (is p) ∙ sym (append-assoc values (q ∷ []) (softColumn p))))
 
 module _ (level : ℕ) (values : List ℕ) where
   -- a one next, or a zero
   pub behind-more : (n k : ℕ) → censusBehind level values (suc n) (suc k) ≡ together (censusBehind level (values ++ (7 ∷ [])) n k) (censusBehind level (values ++ (0 ∷ [])) n (suc k))
-  unfolding censusBehind patterns softOf
+  unfolding censusBehind patterns softColumn
   behind-more n k =
-      totals-append (λ p. endsIn level (values ++ softOf p)) (map (λ p. true ∷ p) (patterns n k)) (map (λ p. false ∷ p) (patterns n (suc k)))
+      totals-append (λ p. endsIn level (values ++ softColumn p)) (map (λ p. true ∷ p) (patterns n k)) (map (λ p. false ∷ p) (patterns n (suc k)))
       ∙ ap₂ together (one-more level values 7 (λ p. true ∷ p) (λ p. refl) (patterns n k)) (one-more level values 0 (λ p. false ∷ p) (λ p. refl) (patterns n (suc k)))
 
   -- no ones are left: zeros alone
   pub behind-none : (n : ℕ) → censusBehind level values n 0 ≡ totals (endsIn level) ((values ++ replicate n 0) ∷ [])
-  unfolding censusBehind patterns
-  behind-none n = sym (totals-map (endsIn level) (λ p. values ++ softOf p) (replicate n false ∷ [])) ∙ ap (λ (l : List ℕ). totals (endsIn level) ((values ++ l) ∷ [])) (soft-zeros n)
+  unfolding censusBehind patterns softColumn
+  behind-none n =
+      sym (totals-map (endsIn level) (λ p. values ++ softColumn p) (replicate n false ∷ []))
+      ∙ ap (λ (l : List ℕ). totals (endsIn level) ((values ++ l) ∷ [])) (map-replicate (λ b. cond b 7 0) n false)
 
   -- no bits are left for ones
   pub behind-end : (k : ℕ) → (k ≡ 0 → ⊥) → censusBehind level values 0 k ≡ record { zero = 0; other = 0; spent = 0 }
@@ -51,7 +48,7 @@ module _ (level : ℕ) (values : List ℕ) where
   few : (n k : ℕ) → n ≤ 30 → let t = censusBehind level values n k in t .zero + t .other + t .spent ≤ 2 ^ 30
   unfolding censusBehind
   few n k h =
-      let sum = totals-add-up (λ p. endsIn level (values ++ softOf p)) (patterns n k) in
+      let sum = totals-add-up (λ p. endsIn level (values ++ softColumn p)) (patterns n k) in
       let all : 2 ^ n ≤ 2 ^ 30 = pow-le-pow-right {n = 2} (omega arith) {i = n} {j = 30} h in
       omega (arith, sum, as-many-as-n-over-k n k, at-most-all n k, all)
 
@@ -97,7 +94,7 @@ module _ (level : ℕ) (column : List ℕ) (from : ℕ) (unflipped : UnflippedFr
 
     -- the column without a flip there
     pub passed : UnflippedFrom level column (from + 1)
-    passed = record { allowed = unflipped .allowed; inside = omega arith; rest = λ k l. unflipped .rest k (omega arith) }
+    passed = record { allowed = unflipped .allowed; rest = λ k l. unflipped .rest k (omega arith) }
 
     -- and with one
     pub flipped : UnflippedFrom level (set column from 7) (from + 1)
@@ -109,7 +106,6 @@ module _ (level : ℕ) (column : List ℕ) (from : ℕ) (unflipped : UnflippedFr
         most = unflipped .allowed .most;
         range = λ k l. in-range k l (ℕ-discrete k from);
       };
-      inside = omega arith;
       rest = λ k l. getD-set-other column from k 7 0 (λ e. omega arith) ∙ unflipped .rest k (omega arith);
     }
       where
@@ -127,7 +123,6 @@ no-flips (suc n) (suc k) = no-flips n k
 pub unflipped : (level : ℕ) → level < 4 → UnflippedFrom level (replicate 30 0) 0
 unflipped level l = record {
   allowed = record { full = refl; level = l; some = omega arith; most = omega arith; range = λ k _. omega (arith, no-flips 30 k) };
-  inside = omega arith;
   rest = λ k _. no-flips 30 k;
 }
 

@@ -7,16 +7,16 @@ use native.Mathlib.Omega.{arith}
 use lib.ListN.{length, length-append, length-map}
 use Rattle.paths.specs.Lists.{Lists, filter}
 use Rattle.paths.proofs.Lists.{filter-map, filter-append, of-filter, in-filter, filter-no-repeats, same-members-length}
-use Rattle.census.specs.Census.{Ending, zeroWord, otherWord, spentOut, equal, numberOf, totals, total, together}
+use Rattle.census.specs.Census.{Ending, zeroWord, otherWord, spentOut, sameEnding, numberOf, totals, total, together}
 
 module _ {A : Type 0} (ends : A → Ending) where
   number-append : (e : Ending) (xs ys : List A) → numberOf ends e (xs ++ ys) ≡ numberOf ends e xs + numberOf ends e ys
   unfolding numberOf
-  number-append e xs ys = ap length (filter-append (λ x. decide (equal (ends x) e)) xs ys) ∙ simp length-append
+  number-append e xs ys = ap length (filter-append (λ x. decide (sameEnding (ends x) e)) xs ys) ∙ simp length-append
 
   number-map : {B : Type 0} (f : B → A) (e : Ending) (xs : List B) → numberOf ends e (map f xs) ≡ numberOf (λ x. ends (f x)) e xs
   unfolding numberOf
-  number-map f e xs = ap length (filter-map (λ x. decide (equal (ends x) e)) f xs) ∙ simp length-map
+  number-map f e xs = ap length (filter-map (λ x. decide (sameEnding (ends x) e)) f xs) ∙ simp length-map
 
   pub totals-append : (xs ys : List A) → totals ends (xs ++ ys) ≡ together (totals ends xs) (totals ends ys)
   unfolding totals
@@ -33,7 +33,7 @@ module _ {A : Type 0} (ends : A → Ending) where
   totals-add-up (x ∷ xs) = go (ends x) (totals-add-up xs)
     where
       next : Ending → Ending → ℕ
-      next d e = length (cond (decide (equal d e)) (x ∷ filter (λ y. decide (equal (ends y) e)) xs) (filter (λ y. decide (equal (ends y) e)) xs))
+      next d e = length (cond (decide (sameEnding d e)) (x ∷ filter (λ y. decide (sameEnding (ends y) e)) xs) (filter (λ y. decide (sameEnding (ends y) e)) xs))
 
       go : (d : Ending) → let t = totals ends xs in t .zero + t .other + t .spent ≡ length xs → next d zeroWord + next d otherWord + next d spentOut ≡ suc (length xs)
       go zeroWord ih = omega (arith, ih)
@@ -49,14 +49,14 @@ module _ {A : Type 0} (ends : A → Ending) where
   -- of a list that has each of what it lists once, those with an ending
   module _ (P : A → Type 0) (xs : List A) (listed : Lists P xs) (e : Ending) where
     abbrev ended : A → Bool
-    ended x = decide (equal (ends x) e)
+    ended x = decide (sameEnding (ends x) e)
 
     pub those-with-an-ending : Lists (λ x. P x × (ends x ≡ e)) (filter ended xs)
     those-with-an-ending = record {
       once = filter-no-repeats ended xs (listed .once);
       exactly = λ x. (
-        λ m. let r = of-filter ended xs x m in (listed .exactly x .0 (r .0), decide-iff (equal (ends x) e) .0 (r .1)),
-        λ h. in-filter ended xs x (listed .exactly x .1 (h .0)) (decide-iff (equal (ends x) e) .1 (h .1)),
+        λ m. let r = of-filter ended xs x m in (listed .exactly x .0 (r .0), decide-iff (sameEnding (ends x) e) .0 (r .1)),
+        λ h. in-filter ended xs x (listed .exactly x .1 (h .0)) (decide-iff (sameEnding (ends x) e) .1 (h .1)),
       );
     }
 

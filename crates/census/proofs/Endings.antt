@@ -19,7 +19,7 @@ use Rattle.searches.specs.declared.SearchAnswer.the-variants.{Found, Refused}
 use Rattle.census.specs.Census.{censusLimit, Ending, zeroWord, otherWord, spentOut, endingOf, endsIn, numberOf, totals}
 use Rattle.census.specs.declared.Totals.{Totals}
 
--- a column that may be searched with a limit may be searched with any other
+-- a column that may be searched with a limit may be searched with any other from 1 to 2,000
 pub allowed-with : {i a b : ℕ} {soft : List ℕ} → Allowed i soft a → 1 ≤ b → b ≤ 2000 → Allowed i soft b
 allowed-with h some most = record { full = h .full; level = h .level; some = some; most = most; range = h .range }
 
@@ -34,12 +34,12 @@ same-ending (answer w c) = refl
 same-ending (spent c) = refl
 
 -- one for the ending, and none for the others
-one : Ending → Totals
+unfoldable pub one : Ending → Totals
 one zeroWord = record { zero = 1; other = 0; spent = 0 }
 one otherWord = record { zero = 0; other = 1; spent = 0 }
 one spentOut = record { zero = 0; other = 0; spent = 1 }
 
-totals-of-one : {A : Type 0} (ends : A → Ending) (x : A) → one (ends x) ≡ totals ends (x ∷ [])
+pub totals-of-one : {A : Type 0} (ends : A → Ending) (x : A) → one (ends x) ≡ totals ends (x ∷ [])
 unfolding totals numberOf filter decide one
 totals-of-one {A} ends x = go (ends x)
   where

@@ -16,15 +16,15 @@ use Rattle.census.specs.Patterns.{Pattern, OnesAmong, patterns}
 use Rattle.census.specs.declared.Totals.{Totals}
 
 -- "starts from the all-zero column at surest values and reads every pattern .. as flips to 7"
-unfoldable pub softOf : Pattern → List ℕ
-softOf p = map (λ b. cond b 7 0) p
+unfoldable pub softColumn : Pattern → List ℕ
+softColumn p = map (λ b. cond b 7 0) p
 
 -- "ending in the zero word, in another word, and spent"
 pub data Ending : Type 0 where
   zeroWord : Ending
   otherWord : Ending
   spentOut : Ending
-  deriving Discrete as equal
+  deriving Discrete as sameEnding
 
 -- of a search
 unfoldable pub endingOf : SearchResult WordFound → Ending
@@ -41,11 +41,11 @@ endsIn level soft = endingOf (searched (supercodeTrellis short (levelValues leve
 
 -- a pattern of so many ones among the bits of a column, with an ending at a level
 abbrev pub Ends : ℕ → ℕ → Ending → Pattern → Type 0
-Ends level k e p = OnesAmong (short .bits) k p × (endsIn level (softOf p) ≡ e)
+Ends level k e p = OnesAmong (short .bits) k p × (endsIn level (softColumn p) ≡ e)
 
 -- how many of a list end so
 unfoldable pub numberOf : {A : Type 0} → (A → Ending) → Ending → List A → ℕ
-numberOf ends e xs = length (filter (λ x. decide (equal (ends x) e)) xs)
+numberOf ends e xs = length (filter (λ x. decide (sameEnding (ends x) e)) xs)
 
 -- the three numbers of a list
 unfoldable pub totals : {A : Type 0} → (A → Ending) → List A → Totals
@@ -59,7 +59,7 @@ total spentOut t = t .spent
 
 -- "patterns ending in the zero word, in another word, and spent", of a level and a number of ones; `total-is-the-number-of-patterns` says that each is the number of patterns with that ending
 unfoldable pub census : ℕ → ℕ → Totals
-census level k = totals (λ p. endsIn level (softOf p)) (patterns (short .bits) k)
+census level k = totals (λ p. endsIn level (softColumn p)) (patterns (short .bits) k)
 
 -- ---- For the code's contracts
 
@@ -69,10 +69,9 @@ together a b = record { zero = a .zero + b .zero; other = a .other + b .other; s
 
 -- of the columns that begin with the given values and go on with n bits, k of them ones
 unfoldable pub censusBehind : ℕ → List ℕ → ℕ → ℕ → Totals
-censusBehind level values n k = totals (λ p. endsIn level (values ++ softOf p)) (patterns n k)
+censusBehind level values n k = totals (λ p. endsIn level (values ++ softColumn p)) (patterns n k)
 
 -- a column that may be searched at a level, and has no flips from a position on
 pub record UnflippedFrom (level : ℕ) (column : List ℕ) (from : ℕ) : Type 0 where
   pub allowed : Allowed level column censusLimit
-  pub inside : from ≤ short .bits
   pub rest : (k : ℕ) → from ≤ k → getD column k 0 ≡ 0

@@ -13,6 +13,7 @@ use Rattle.column.specs.Shape.{Shape, levels, short}
 use Rattle.reedsolomon.specs.Search.{Found}
 use Rattle.reedsolomon.proofs.Remainders.{zeros-are-a-codeword}
 use Rattle.packing.specs.Packing.{joined}
+use Rattle.paths.proofs.Lists.{map-replicate}
 use Rattle.trellis.specs.Demand.{Search as Kind}
 use Rattle.trellis.proofs.ZeroColumn.{zeroFound, zero-column-in-30-steps}
 use Rattle.concatenated.specs.Lists.{sum, total, listed}
@@ -29,7 +30,7 @@ use Rattle.concatenated.specs.ZeroPage.{zeroPage, zeroLevel}
 use Rattle.concatenated.proofs.Counting.{in-reach-by-totals}
 use Rattle.concatenated.proofs.RowsBack.{level-with-row}
 use Rattle.concatenated.proofs.OuterJoint.{outer-laws}
-use Rattle.concatenated.proofs.Zeros.{map-replicate, lows-replicate, sum-replicate, total-of-none, none-changed, zero-columns, zero-reimages-to-zero, zero-row-off}
+use Rattle.concatenated.proofs.Zeros.{lows-replicate, sum-replicate, total-of-none, none-changed, zero-columns, zero-reimages-to-zero, zero-row-off}
 
 -- ---- any format: a reader that reads the zero column as 0 in n steps, with the low point z i at level i, and rows of zeros that are codewords
 

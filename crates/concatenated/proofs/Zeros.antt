@@ -1,6 +1,6 @@
 -- Lists of equal entries, and what the steps of page decoding make of zeros. Assumes nothing.
 use mathlib.Core.Bool.{Bool, false, not}
-use mathlib.Core.List.{List, [], _∷_, map}
+use mathlib.Core.List.{List, [], _∷_}
 use mathlib.Core.Path.{_≡_, refl, sym, ap, ap₂, _∙_}
 use Prim.Native.Nat.{ℕ, zero, suc, _+_, _-_, _*_, _/_, _%_, _^_, _≤_, _<_}
 use native.Mathlib.Nat.{zero-add, zero-mul, suc-mul, zero-div, zero-mod, mul-le-mul-right}
@@ -25,10 +25,6 @@ use Rattle.concatenated.proofs.Lists.{listed-length, listed-at}
 use Rattle.concatenated.proofs.SoftPages.{part-of-the-page}
 
 -- ---- lists of equal entries
-
-pub map-replicate : {A B : Type 0} (f : A → B) (n : ℕ) (x : A) → map f (replicate n x) ≡ replicate n (f x)
-map-replicate f zero x = refl
-map-replicate f (suc n) x = ap (λ (t : List _). f x ∷ t) (map-replicate f n x)
 
 pub sum-replicate : (n x : ℕ) → sum (replicate n x) ≡ n * x
 unfolding sum

@@ -3,11 +3,11 @@ use mathlib.Core.Bool.{Bool, true, false, cond, _&&_, _||_}
 use mathlib.Core.List.{List, [], _∷_, _++_, map}
 use mathlib.Core.Logic.{_⊎_, inl, inr, ⊎-elim}
 use mathlib.Core.Path.{_≡_, refl, sym, ap, _∙_, subst, subst⁻¹}
-use Prim.Native.Nat.{ℕ, suc, _+_, _≤_}
+use Prim.Native.Nat.{ℕ, zero, suc, _+_, _≤_}
 use native.Mathlib.Omega.{arith}
 use native.Mathlib.Nat.{le-antisymm}
 use native.Mathlib.Decide.{decLe}
-use lib.ListN.{length}
+use lib.ListN.{length, replicate}
 use Rattle.paths.specs.Lists.{Mem, NoRepeats, filter}
 use Rattle.paths.proofs.Booleans.{not-both}
 
@@ -18,6 +18,10 @@ in-map f x (y ∷ l) (inr m) = inr (in-map f x l m)
 pub of-map : {A B : Type 0} (f : A → B) (y : B) (l : List A) → Mem y (map f l) → (x : A) × (y ≡ f x) × Mem x l
 of-map f y (x ∷ l) (inl e) = (x, e, inl refl)
 of-map f y (x ∷ l) (inr m) = let r = of-map f y l m in (r .0, r .1, inr (r .2))
+
+pub map-replicate : {A B : Type 0} (f : A → B) (n : ℕ) (x : A) → map f (replicate n x) ≡ replicate n (f x)
+map-replicate f zero x = refl
+map-replicate f (suc n) x = ap (_∷_ (f x)) (map-replicate f n x)
 
 -- what keeps different things different makes no repeats
 pub map-no-repeats : {A B : Type 0} (f : A → B) (l : List A) → ((x y : A) → f x ≡ f y → x ≡ y) → NoRepeats l → NoRepeats (map f l)
