@@ -91,8 +91,8 @@ def imports(text, crates):
         if names is not None and not owned(module, crates):
             for it in names.split(","):
                 taken.update(it.split()[:1])
-        if alias and owned(module, crates):
-            aliases.add(alias)
+        if names is None and owned(module, crates):
+            aliases.add(alias or module.rsplit(".", 1)[1])
     return taken, aliases
 
 

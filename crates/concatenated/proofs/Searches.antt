@@ -30,11 +30,11 @@ module _ (S : Shape) (i : ℕ) (given : Searchable S i) (vs : ℕ → Values) (l
   module _ (kind : Kind) (w : Path) (best : AheadOfAll S (vs i) c i w) where
     pub finds_within_the_limit : rank (trellis kind S (vs i) c i) w ≤ limit → reader_of off kind S vs limit i c ≡ found (found_word (sum (vs i) c) w) (rank (trellis kind S (vs i) c i) w)
     unfolding reader_of reading_of
-    finds_within_the_limit l = ap (reading_of limit) (Demand.answers-within-the-limit S i given (vs i) c kind w best limit l)
+    finds_within_the_limit l = ap (reading_of limit) (Demand.answers_within_the_limit S i given (vs i) c kind w best limit l)
 
     pub is_spent_above_the_limit : limit < rank (trellis kind S (vs i) c i) w → reader_of off kind S vs limit i c ≡ spent limit
     unfolding reader_of reading_of
-    is_spent_above_the_limit l = ap (reading_of limit) (Demand.is-spent-above-the-limit S i given (vs i) c kind w best limit l)
+    is_spent_above_the_limit l = ap (reading_of limit) (Demand.is_spent_above_the_limit S i given (vs i) c kind w best limit l)
 
     -- the word found is the codeword ahead of all others, with its low point, and its count the number of paths that are prefixes of it or ahead of it
     pub found_is_ahead_of_all : (x : WordFound) (n : ℕ) → reader_of off kind S vs limit i c ≡ found x n
@@ -93,4 +93,4 @@ module _ (S : Shape) (i : ℕ) (given : Searchable S i) (vs : ℕ → Values) (l
 
     pub the_searches_are_one : reader_of off whole S vs limit i c ≡ reader_of off supercode S vs limit i c
     unfolding reader_of
-    the_searches_are_one = ap (reading_of limit) (sym (Demand.searches-are-one S i given (vs i) c one_code limit))
+    the_searches_are_one = ap (reading_of limit) (sym (Demand.searches_are_one S i given (vs i) c one_code limit))

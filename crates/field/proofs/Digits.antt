@@ -29,7 +29,7 @@ more m g k p q p' r s er ep es = ap₂ add er (es ∙ ap (λ (t : ℕ). digits_p
 module _ (m g : ℕ) (deg : Degree m g) (wide : 1 < m) where
   digits_mul : (k a b : ℕ) → a < 2 ^ m → k ≤ m → digits_product m g k a b ≡ mul m g a (b % 2 ^ k)
   unfolding digits_product
-  digits_mul zero a b ha hk = sym (ap (mul m g a) (Nat.mod-one b) ∙ Ring.mul-zero-r m g a)
+  digits_mul zero a b ha hk = sym (ap (mul m g a) (Nat.mod-one b) ∙ Ring.mul_zero_r m g a)
   digits_mul (suc k) a b ha hk =
       let c : ℕ = b / 2 % 2 ^ k in
       let low : c < 2 ^ k = mod-lt (b / 2) (pow_pos k) in
@@ -37,16 +37,16 @@ module _ (m g : ℕ) (deg : Degree m g) (wide : 1 < m) where
       let fits : c * 2 < 2 ^ m = omega (arith, pow-suc 2 k) in
       let digits : b % 2 ^ suc k ≡ add (c * 2) (b % 2) =
       ap (λ (t : ℕ). b % 2 ^ t) (sym (native.Mathlib.Numerals.add-one k)) ∙ lib.Pow.mod-pow-add b k 1 ∙ sym (add_high c 1 (b % 2) (mod-lt b (zero-lt-suc 1))) in
-      ap (add (scale (b % 2) a)) (digits_mul k (mul m g α a) (b / 2) (Ring.mul-lt m g deg α a) (Nat.le_trans (Nat.le-suc k) hk))
-      ∙ ap₂ add (sym (Ring.mul-digit m g deg wide a (b % 2) ha (mod-lt b (zero-lt-suc 1))))
-      (ap (λ (t : ℕ). mul m g t c) (Ring.mul_comm m g α a) ∙ Ring.mul_assoc m g deg a α c ∙ ap (mul m g a) (Ring.mul-shift m g deg wide c fits))
+      ap (add (scale (b % 2) a)) (digits_mul k (mul m g α a) (b / 2) (Ring.mul_lt m g deg α a) (Nat.le_trans (Nat.le-suc k) hk))
+      ∙ ap₂ add (sym (Ring.mul_digit m g deg wide a (b % 2) ha (mod-lt b (zero-lt-suc 1))))
+      (ap (λ (t : ℕ). mul m g t c) (Ring.mul_comm m g α a) ∙ Ring.mul_assoc m g deg a α c ∙ ap (mul m g a) (Ring.mul_shift m g deg wide c fits))
       ∙ add_comm (mul m g a (b % 2)) (mul m g a (c * 2))
-      ∙ sym (Ring.mul-add-r m g a (c * 2) (b % 2)) ∙ ap (mul m g a) (sym digits)
+      ∙ sym (Ring.mul_add_r m g a (c * 2) (b % 2)) ∙ ap (mul m g a) (sym digits)
 
   -- all m digits
   pub whole : (a b r : ℕ) → r ≡ digits_product m g m (a % 2 ^ m) b → r ≡ mul m g a b
   whole a b r e =
-      e ∙ digits_mul m (a % 2 ^ m) b (mod-lt a (pow_pos m)) (Nat.le_refl m) ∙ Ring.mul-mod-l m g a (b % 2 ^ m) ∙ Ring.mul-mod-r m g a b
+      e ∙ digits_mul m (a % 2 ^ m) b (mod-lt a (pow_pos m)) (Nat.le_refl m) ∙ Ring.mul_mod_l m g a (b % 2 ^ m) ∙ Ring.mul_mod_r m g a b
 
   -- one step of the division by g = x ^ m + low, of a number with one digit more
   reduced_low : (low w c : ℕ) → g ≡ 1 * 2 ^ m + low → low < 2 ^ m → c < 2 → w / 2 ^ m ≡ c → reduced m g w ≡ add (w % 2 ^ m) (scale c low)
@@ -68,4 +68,4 @@ module _ (m g : ℕ) (deg : Degree m g) (wide : 1 < m) where
   unfolding add next
   times_α low a s c r eg hl es ec er =
       ap₂ add es er ∙ sym (reduced_low low (a % 2 ^ m * 2) (c % 2) eg hl (mod-lt c (zero-lt-suc 1)) (sym ec))
-      ∙ sym (Ring.mul-α m g deg wide (a % 2 ^ m) (mod-lt a (pow_pos m))) ∙ Ring.mul-mod-r m g α a
+      ∙ sym (Ring.mul_α m g deg wide (a % 2 ^ m) (mod-lt a (pow_pos m))) ∙ Ring.mul_mod_r m g α a

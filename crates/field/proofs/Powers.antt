@@ -46,7 +46,7 @@ module _ (m g : ℕ) (deg : Degree m g) (wide : 1 < m) where
   unfolding iterate power
   iterate_power zero j = ap (power m g α) (sym (Nat.zero-add j))
   iterate_power (suc k) j =
-      ap (iterate (next m g) k) (sym (Ring.mul-α m g deg wide (power m g α j) (Ring.power-lt m g deg wide α j)))
+      ap (iterate (next m g) k) (sym (Ring.mul_α m g deg wide (power m g α j) (Ring.power_lt m g deg wide α j)))
       ∙ iterate_power k (suc j) ∙ ap (power m g α) (Nat.add-suc k j ∙ sym (Nat.suc-add k j))
 
 module _ (m g : ℕ) (t : Primitive m g) where
@@ -55,11 +55,11 @@ module _ (m g : ℕ) (t : Primitive m g) where
   units = 2 ^ m - 1
 
   two_lt : 2 < 2 ^ m
-  two_lt = Ring.two-lt m g t.degree t.wide
+  two_lt = Ring.two_lt m g t.degree t.wide
 
   from_α : (k : ℕ) → iterate (next m g) k α ≡ power m g α (suc k)
   from_α k =
-      ap (iterate (next m g) k) (sym (Ring.power-one m g t.degree t.wide α two_lt)) ∙ iterate_power m g t.degree t.wide k 1
+      ap (iterate (next m g) k) (sym (Ring.power_one m g t.degree t.wide α two_lt)) ∙ iterate_power m g t.degree t.wide k 1
       ∙ ap (power m g α) (native.Mathlib.Numerals.add-one k)
 
   pub power_units : power m g α units ≡ 1
@@ -76,7 +76,7 @@ module _ (m g : ℕ) (t : Primitive m g) where
   -- every power of α, to the power of the number of units, is 1
   power_power_units : (k : ℕ) → power m g (power m g α k) units ≡ 1
   power_power_units k =
-      Ring.power-power m g t.degree t.wide α k units ∙ ap (power m g α) (Nat.mul_comm k units) ∙ sym (Ring.power-power m g t.degree t.wide α units k)
+      Ring.power_power m g t.degree t.wide α k units ∙ ap (power m g α) (Nat.mul_comm k units) ∙ sym (Ring.power_power m g t.degree t.wide α units k)
       ∙ ap (λ (x : ℕ). power m g x k) power_units ∙ Ring.one_power m g t.degree t.wide k
 
   -- a to the power of the number of units, one factor apart
@@ -90,7 +90,7 @@ module _ (m g : ℕ) (t : Primitive m g) where
   pub power_not_zero : (k : ℕ) → power m g α k ≡ 0 → ⊥
   power_not_zero k e =
       let one : ◌≡◌ {A = ℕ} 0 1 =
-      sym (Ring.mul-zero-l m g (inverse m g 0)) ∙ unit_factor 0 ∙ ap (λ (x : ℕ). power m g x units) (sym e) ∙ power_power_units k in
+      sym (Ring.mul_zero_l m g (inverse m g 0)) ∙ unit_factor 0 ∙ ap (λ (x : ℕ). power m g x units) (sym e) ∙ power_power_units k in
       omega arith
 
   pub powers_distinct : Distinct units (power m g α)
@@ -104,11 +104,11 @@ module _ (m g : ℕ) (t : Primitive m g) where
           let round : (units - i) + j ≡ units + (j - i) = omega arith in
           let whole : (units - i) + i ≡ units = omega arith in
           let back : power m g α (units - i + i) ≡ power m g α (units - i + j) =
-          Ring.power-add m g t.degree t.wide α (units - i) i ∙ ap (mul m g (power m g α (units - i))) e
-          ∙ sym (Ring.power-add m g t.degree t.wide α (units - i) j) in
+          Ring.power_add m g t.degree t.wide α (units - i) i ∙ ap (mul m g (power m g α (units - i))) e
+          ∙ sym (Ring.power_add m g t.degree t.wide α (units - i) j) in
           power_order (j - i) (omega arith) (omega arith)
-          (sym (Ring.mul-one-l m g t.degree t.wide (power m g α (j - i)) (Ring.power-lt m g t.degree t.wide α (j - i)))
-          ∙ ap (λ (x : ℕ). mul m g x (power m g α (j - i))) (sym power_units) ∙ sym (Ring.power-add m g t.degree t.wide α units (j - i))
+          (sym (Ring.mul_one_l m g t.degree t.wide (power m g α (j - i)) (Ring.power_lt m g t.degree t.wide α (j - i)))
+          ∙ ap (λ (x : ℕ). mul m g x (power m g α (j - i))) (sym power_units) ∙ sym (Ring.power_add m g t.degree t.wide α units (j - i))
           ∙ ap (power m g α) (sym round) ∙ sym back ∙ ap (power m g α) whole ∙ power_units)
 
   -- 01: the elements but 0 are "powers of α"
@@ -122,7 +122,7 @@ module _ (m g : ℕ) (t : Primitive m g) where
 
       low : (k : ℕ) → k < units → power m g α k - 1 < units
       low k l =
-          let small : power m g α k < 2 ^ m = Ring.power-lt m g t.degree t.wide α k in
+          let small : power m g α k < 2 ^ m = Ring.power_lt m g t.degree t.wide α k in
           let some : power m g α k ≡ 0 → ⊥ = power_not_zero k in
           omega arith
 
@@ -141,9 +141,9 @@ module _ (m g : ℕ) (t : Primitive m g) where
   no_zero_divisors a zero ha hb e = inr refl
   no_zero_divisors a (suc b) ha hb e =
       inl
-      (sym (Ring.mul-one-r m g t.degree t.wide a ha) ∙ ap (mul m g a) (sym (mul_inverse (suc b) hb (λ q. absurd (omega arith))))
+      (sym (Ring.mul_one_r m g t.degree t.wide a ha) ∙ ap (mul m g a) (sym (mul_inverse (suc b) hb (λ q. absurd (omega arith))))
       ∙ sym (Ring.mul_assoc m g t.degree a (suc b) (inverse m g (suc b))) ∙ ap (λ (x : ℕ). mul m g x (inverse m g (suc b))) e
-      ∙ Ring.mul-zero-l m g (inverse m g (suc b)))
+      ∙ Ring.mul_zero_l m g (inverse m g (suc b)))
 
   -- the numbers below 2 ^ m are a field
   pub is_field : Field (λ a. a < 2 ^ m) add (mul m g) 0 1 (inverse m g)
@@ -155,12 +155,12 @@ module _ (m g : ℕ) (t : Primitive m g) where
         sum_self = add_self;
         mul_assoc = Ring.mul_assoc m g t.degree;
         mul_comm = Ring.mul_comm m g;
-        mul_sum = Ring.mul-add-r m g;
-        mul_one = Ring.mul-one-r m g t.degree t.wide;
+        mul_sum = Ring.mul_add_r m g;
+        mul_one = Ring.mul_one_r m g t.degree t.wide;
         mul_inv = mul_inverse;
         in_zero = pow_pos m;
-        in_one = Ring.one-lt m g t.degree t.wide;
+        in_one = Ring.one_lt m g t.degree t.wide;
         one_not_zero = λ e. omega arith;
         in_sum = add_lt m;
-        in_mul = Ring.mul-lt m g t.degree;
+        in_mul = Ring.mul_lt m g t.degree;
       }

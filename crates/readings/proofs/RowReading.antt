@@ -56,7 +56,7 @@ module _ (choice : Choice) (kind : Kind) (limit i : ℕ) (h : i < 4) (c : List �
   word_in_range r e = word_is_in_range limit i h (short_reader choice kind limit) reads c limit r (reads_it r e)
 
   pub count_within_the_limit : count (short_reader choice kind limit i c) ≤ limit
-  count_within_the_limit = Readings.count-within-the-limit short i (searchable i h) level_values limit (short_reader choice kind limit) reads c
+  count_within_the_limit = Readings.count_within_the_limit short i (searchable i h) level_values limit (short_reader choice kind limit) reads c
 
 -- a column of the page as the search takes it
 pub soft_column_lem : (c : List ℕ) → (length c ≡ 30) × Soft c → (k : ℕ) → k < 30 → get_or c k 0 ≤ 7

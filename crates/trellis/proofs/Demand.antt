@@ -217,4 +217,4 @@ module _ (S : Shape) (i : ℕ) (given : Searchable S i) (vs : Values) (soft : Li
   -- ---- (5) the stack
 
   pub stack_holds_at_most_k_plus_two : (s : Search) (k : ℕ) → length (after (trellis s S vs soft i) k).stack ≤ k + 2
-  stack_holds_at_most_k_plus_two s k = Steps.stack-holds-at-most-k-plus-two (trellis s S vs soft i) k
+  stack_holds_at_most_k_plus_two s k = Steps.stack_holds_at_most_k_plus_two (trellis s S vs soft i) k
