@@ -1,6 +1,8 @@
 // Writing and reading of the dump of a soft page: 01, "The dump". A byte of a block is a soft value, a fixed or zero byte, or one of the two of the check. Writing goes byte by byte, by
 // `holds_value` and `fixed_byte`; reading takes a block's values in one piece, by `values_of`. Lengths and block numbers are asked of the caller; the crate `store_dumps`
 // has the calls that test them.
+#![tactic(auto)]
+
 ghost use Rattle.std.specs.Prelude.{◌≡◌, ◌+◌, ◌<◌, ◌≤◌, length};
 ghost use Rattle.dump.specs.Check.{check_of};
 ghost use Rattle.dump.specs.Block.{holds_value, fixed_byte, body_byte, block_of, fixed_right, check_right};
@@ -170,7 +172,7 @@ pub fn read(dump: &[u8], out: &mut [u8])
         let end = start + n;
         let at = b * 480;
         let to = at + n;
-        bytes::copy(&dump[start..end], &mut out[at..to]);
+        out[at..to].copy_from_slice(&dump[start..end]);
         b += 1;
     }
 }

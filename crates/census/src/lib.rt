@@ -2,6 +2,8 @@
 //
 // The argument. The patterns of k ones among n bits begin with a one or with a zero: that is how they are defined and how the code goes through them, so each is searched once.
 // The search asks nothing of what its arrays hold, so one set of them serves the whole census.
+#![tactic(auto)]
+
 ghost use Rattle.std.specs.Prelude.{[], ◌∷◌, ◌≡◌, ◌+◌, ◌-◌, ◌^◌, ◌<◌, take};
 ghost use Rattle.stack.specs.Places.{Room};
 ghost use Rattle.search.specs.Outcomes.{SupercodesBelow};

@@ -3,6 +3,7 @@
 // The argument. `advance` takes the head of the list of the specification. While all lines are right, they are the paths taken, so that list is the stack that they leave, and a line is right
 // if it is the path that the step takes. A line that is no path is never right: what a step takes has 1 to n bits, and no bit above its length.
 // One path more at most is on the stack after a line, so 2,002 places suffice for 2,000 lines.
+#![tactic(auto)]
 
 pub mod short_page;
 

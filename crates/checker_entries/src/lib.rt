@@ -1,4 +1,6 @@
 // Test entry of the checker of listings for C, thin over its call: what tests/run-vectors and tests/run-checker call beside crates/entries. An archive of its own, since that of crates/entries has none.
+#![tactic(auto)]
+
 ghost use Rattle.std.specs.Prelude.{◌≡◌};
 ghost use Rattle.search.specs.Outcomes.{search_of};
 ghost use Rattle.store_listings.specs.Listings.{listing_answer};

@@ -6,6 +6,7 @@
 //
 // The argument. `enter` and `displace` do to the arrays what `insert` and a cut do to the list of the specification.
 // The extension that agrees with the soft value stands before the other (`Leading`): so it is compared with the first path alone, and the other never is the first.
+#![tactic(auto)]
 
 pub mod short_page;
 

@@ -1,4 +1,6 @@
 // Test entries of the chip model for C, thin over its calls: what tests/run-vectors and tests/run-chip call beside crates/entries. An archive of their own, since the store's has no chip.
+#![tactic(auto)]
+
 ghost use Rattle.std.specs.Prelude.{◌≡◌};
 ghost use Rattle.store_chip.specs.Chip.{chip_answer};
 ghost use Rattle.chip_entries.specs.Told.{chip_found_of, ChipReplied};

@@ -1,4 +1,6 @@
 // Page decoding as the chip makes it: 02, point 5. Each column is searched with 64 places; the rest of a level, the report and the packing are those of every page (crates levels and page).
+#![tactic(auto)]
+
 ghost use Rattle.std.specs.Prelude.{map, ◌≡◌, ◌<◌, ◌≤◌, length};
 ghost use Rattle.column.specs.Shape.{short};
 ghost use Rattle.concatenated.specs.Format.{short_page};

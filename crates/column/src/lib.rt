@@ -1,5 +1,7 @@
 // The nested column codes: 01, "Field and column". A column is a number below 2^30, position 0 its top bit.
 // The laws hold for every family of nested codes (specs/Shape.antt); `remainder` and `systematic` serve every size, the rest is the short page's instance.
+#![tactic(auto)]
+
 pub mod masks;
 
 ghost use Rattle.std.specs.Prelude.{◌≡◌, [], ◌∷◌, ◌+◌, ◌*◌, ◌%◌, ◌^◌, ◌<◌, ◌≤◌};

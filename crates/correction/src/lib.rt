@@ -1,4 +1,6 @@
 // The corrected row, and how far it is from the one received.
+#![tactic(auto)]
+
 ghost use Rattle.std.specs.Prelude.{◌≡◌, ◌≤◌, eqb, length};
 ghost use Rattle.std.proofs.Math.Decide.{ℕ_discrete};
 ghost use Rattle.reedsolomon.specs.Words.{count, errors, wrong as wrong_in};

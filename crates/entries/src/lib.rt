@@ -1,4 +1,6 @@
 // Test entries for C, thin over the public calls: what tests/run-vectors calls. Each answers with number, place and value, as questions' specs/Answer.antt gives them.
+#![tactic(auto)]
+
 ghost use Rattle.std.specs.Prelude.{◌≡◌, ◌*◌, ◌<◌, length};
 ghost use Rattle.store_columns.specs.Columns.{encode_answer, level_word_answer, reimage_answer};
 ghost use Rattle.trellis.specs.Demand.{whole, supercode};

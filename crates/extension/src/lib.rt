@@ -7,6 +7,7 @@
 // `advance` therefore does to the heap what `grow` and taking the head do to the list.
 // Every path on the stack has at most n bits, n at most 42, so that ranks order them (`Good`).
 // A sum is within 60 a bit of zero (`Good`), so it fits 16 bits.
+#![tactic(auto)]
 
 ghost use Rattle.std.specs.Prelude.{◌+◌, ◌-◌, ◌*◌, ◌/◌, ◌%◌, ◌<◌, ◌≤◌, cond, ◌&&◌, not, ◌≡◌, eqb, pos, length, get_or};
 ghost use Rattle.column.specs.Mask.{parity};

@@ -1,5 +1,7 @@
 // The field of 64 elements: 01, "Field and column". An element is a number 0..63, bit k the coefficient of α^k; the sum is `^`.
 // The laws hold for the field of 2^m elements by any modulus that passes one test (specs/Element.antt, proofs/); the code is their instance m = 6, g = x^6 + x + 1.
+#![tactic(auto)]
+
 ghost use Rattle.std.specs.Prelude.{◌≡◌, ◌%◌};
 ghost use Rattle.poly.specs.Polynomial.{scale};
 ghost use Rattle.field.specs.Element.{mul, inverse as inverse_of, α};

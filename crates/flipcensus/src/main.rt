@@ -1,5 +1,7 @@
 // The program `flipcensus`: prints how many patterns of flips end in the zero word, in another word, and spent, for each level and number of ones. 02, point 14.
 // The whole output is built in a buffer by functions with contracts, then written line by line.
+#![tactic(auto)]
+
 ghost use Rattle.std.specs.Prelude.{◌≡◌, ◌+◌, ◌≤◌, ◌<◌, length, take};
 ghost use Rattle.io.specs.Counts.{IsPrefixLen};
 ghost use Rattle.stack.specs.Places.{Room};

@@ -2,6 +2,7 @@
 //
 // The argument. `search::run` goes on from every state that stands. Where the definition's search stops in that state after so many steps, going on is the definition's search with a larger limit.
 // Whether a state stands can be tested (`ready`), so a state that no search made is safe too.
+#![tactic(auto)]
 
 pub mod ready;
 
@@ -14,7 +15,7 @@ use search::{Progress, SearchOutcome};
 // A held search: its summed limit, its level and its column; the number of paths on the stack; the last path taken, its bits, its sum and its length; the lowest sum of those taken; the stack's three arrays, the bits in 32 where the search has 64.
 // It has taken as many paths as its limit says. A limit of 0: nothing is held.
 #[repr(C)]
-#[derive(Drop)]
+#[derive(Clone, Copy)]
 pub struct Held {
     pub limit: u64,
     pub level: u64,
@@ -54,7 +55,7 @@ pub fn begin(soft: &[u8], level: u64) -> Held
     ensures { result ≡ begun_held soft.now level }
 {
     let mut column = [0u8; 30];
-    bytes::copy(soft, &mut column);
+    column.copy_from_slice(soft);
     let mut held = nothing();
     held.level = level;
     held.low = search::NONE_TAKEN;

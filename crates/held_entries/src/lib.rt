@@ -1,4 +1,6 @@
 // Test entries of the held searches for C, thin over their calls: what tests/run-vectors and tests/run-held call beside crates/entries. An archive of their own, since that of crates/entries has none.
+#![tactic(auto)]
+
 ghost use Rattle.std.specs.Prelude.{◌≡◌};
 ghost use Rattle.store_held.specs.Calls.{empty_store};
 ghost use Rattle.held_entries.specs.Told.{HoldReplied, TakeReplied};

@@ -1,4 +1,6 @@
 // Page decoding, level by level, on the columns of a soft page.
+#![tactic(auto)]
+
 ghost use Rattle.std.specs.Prelude.{List, ◌≡◌, ◌<◌, ◌≤◌, ℤ, length};
 ghost use Rattle.column.specs.Shape.{short};
 ghost use Rattle.stack.specs.Places.{Room};

@@ -2,6 +2,7 @@
 //
 // The argument. `search::run` goes on past a word as the search of the specification does, on the same stack; so two calls of it are the first and the second search.
 // The lowest sum of all paths taken is the low point of the last word taken, as for a first word.
+#![tactic(auto)]
 
 pub mod hard;
 
@@ -90,7 +91,7 @@ pub fn search_words(
 }
 
 // How a column is searched: the limit, the search, and whether a second word may be sought, below which sum of the first.
-#[derive(Drop)]
+#[derive(Clone, Copy)]
 pub struct Way {
     pub limit: u64,
     pub in_supercodes: bool,

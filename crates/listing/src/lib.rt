@@ -1,4 +1,6 @@
 // Lines of text in a buffer: decimal and hexadecimal numbers, the lines of a page's listing (01, "The station's interface"; 02, point 6) and of a census (02, point 14); and their writing.
+#![tactic(auto)]
+
 ghost use Rattle.std.specs.Prelude.{◌≡◌, ◌++◌, ◌+◌, ◌≤◌, ◌<◌, length, drop};
 ghost use Rattle.io.specs.Digits.{hex_digit_ascii};
 ghost use Rattle.listing.specs.Text.{decimal, hex_of, hex_mark, line_length, Appended};

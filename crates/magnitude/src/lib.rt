@@ -1,4 +1,6 @@
 // The error locations' polynomial, and what is to be added at each of them: sixteen at a time by synthetic division.
+#![tactic(auto)]
+
 ghost use Rattle.std.specs.Prelude.{true, ℕ, ◌+◌, ◌-◌, ◌≤◌, length};
 ghost use Rattle.poly.specs.Polynomial.{add};
 ghost use Rattle.field.specs.Element.{mul, inverse};

@@ -1,4 +1,5 @@
 // What bench/run measures: the searches of many columns over one set of arrays, as page decoding makes them. No part of the store.
+#![tactic(auto)]
 
 pub mod chip_searches;
 

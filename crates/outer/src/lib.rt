@@ -1,5 +1,7 @@
 // The outer code of the short page: 01, "Rows and page". A row is a Reed-Solomon word of 63 symbols over the field of 64 elements.
 // The answers are defined in reedsolomon's specs/Row.antt; the theory there holds for every field of characteristic 2.
+#![tactic(auto)]
+
 ghost use Rattle.std.specs.Prelude.{◌≡◌, ◌+◌, ◌≤◌, ◌<◌, length};
 ghost use Rattle.reedsolomon.specs.Row.{Symbols, is_codeword, outer_answer, encoded_row, RowDecoded};
 ghost use Rattle.reedsolomon.specs.ShortRows.{short_roots, RowRoots};

@@ -1,5 +1,7 @@
 // Three bytes are one number of 24 bits, top byte first; so are four symbols. A written column is 30 bits from the top and two zeros in four bytes.
 // A signed number is written as 16 bits.
+#![tactic(auto)]
+
 ghost use Rattle.std.specs.Prelude.{◌≡◌, ◌<◌, ◌^◌};
 ghost use Rattle.packing.specs.Packing.{symbols_of, bytes_of, column_bytes, sixteen_bits};
 

@@ -1,6 +1,8 @@
 // Pages: 01, "Rows and page". A page is written from 150 bytes of data (`encode_page`), and a soft page is decoded to them (`decode_page`): its corrected symbols are asked for (`ask_page`)
 // and packed (`pack`). Symbols from elsewhere are judged first (`lowest_no_word`).
 // What they give is defined in concatenated's specs/Written.antt and specs/Decode.antt, and in specs/Outcomes.antt.
+#![tactic(auto)]
+
 ghost use Rattle.std.specs.Prelude.{List, ◌≡◌, ℕ, ◌<◌, ◌≤◌, length};
 ghost use Rattle.column.specs.Shape.{short};
 ghost use Rattle.concatenated.specs.Format.{short_page};

@@ -1,4 +1,6 @@
 // 01, "Questions put to every call": what a call answers, and what question 5 looks for.
+#![tactic(auto)]
+
 ghost use Rattle.std.specs.Prelude.{◌≡◌};
 ghost use Rattle.questions.specs.Questions.{first_above};
 

@@ -1,4 +1,6 @@
 // The reading of a level: each column is searched, re-imaged and marked.
+#![tactic(auto)]
+
 ghost use Rattle.std.specs.Prelude.{[], ◌∷◌, map, ◌≡◌, ◌<◌, ◌≤◌, length};
 ghost use Rattle.column.specs.Shape.{short};
 ghost use Rattle.stack.specs.Places.{Room};

@@ -1,5 +1,7 @@
 // The program `readpage`: reads one dump from standard input and prints its page, or the refusal. 01, "The station's interface".
 // The whole output is built in a buffer by functions with contracts, then written line by line.
+#![tactic(auto)]
+
 ghost use Rattle.std.specs.Prelude.{◌≡◌, true, ◌<◌, ◌≤◌, leb, length, take};
 ghost use Rattle.io.specs.Counts.{IsPrefixLen};
 ghost use Rattle.trellis.specs.Demand.{supercode};

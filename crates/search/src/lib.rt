@@ -3,6 +3,7 @@
 // The argument. `advance` does to the heap what `grow` and taking the head do to the list of the specification, and `run` goes on as `run-keys` does, from any state that stands for one.
 // One path more at most is on the stack after a step, so 2,002 places suffice for 2,000 steps.
 // The lowest sum of all paths taken is the low point of the word: until the word is taken one of its prefixes is on the stack, so no path taken has a sum below all of theirs.
+#![tactic(auto)]
 
 pub mod short_page;
 
@@ -24,7 +25,7 @@ pub enum SearchOutcome {
 
 // Where a search stands: the number of paths on the stack, the number taken, the last path taken, and the lowest sum of those taken.
 // A last path without bits: nothing is taken yet, or the stack ran empty.
-#[derive(Drop)]
+#[derive(Clone, Copy)]
 pub struct Progress {
     pub paths: usize,
     pub count: u64,

@@ -1,5 +1,7 @@
 // The questions and the answer of a column search: what the single calls (crates/store_searches), the jobs of a batch (crates/store_batches) and the first call of a held search (crates/store_held) share.
 // And the supercode search over arrays and masks that are lent, for those who search many columns: a batch and the census of flips (crates/census).
+#![tactic(auto)]
+
 ghost use Rattle.std.specs.Prelude.{◌≡◌};
 ghost use Rattle.column.specs.Shape.{short};
 ghost use Rattle.trellis.specs.Values.{level_values};

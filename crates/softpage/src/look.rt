@@ -26,7 +26,7 @@ pub fn load(soft: &[u8], work: &mut [[u8; 30]; 63])
 {
     let mut j: usize = 0;
     while j < 63 {
-        bytes::copy(column_of(soft, j), &mut work[j]);
+        work[j].copy_from_slice(column_of(soft, j));
         j += 1;
     }
 }

@@ -7,6 +7,7 @@
 // The argument. `rise` and `sink` keep the heap, and what is in it: the same sum of weights for every weight (crate `heap`).
 // So what comes out of `exchange` or `take_first` stands after none that stay.
 // Ranks order the paths for lengths below 64 and bits below 2^42 (`Small`).
+#![tactic(auto)]
 
 ghost use Rattle.std.specs.Prelude.{ℕ, ◌+◌, ◌-◌, ◌<◌, ◌≤◌, cond, ◌≡◌, ltb};
 ghost use Rattle.heap.specs.Heap.{Heap, Every, weigh};

@@ -1,5 +1,7 @@
 // The station's C interface: 01, "The station's interface", and 02, points 1, 7 and 9. Eight entries on byte slices, thin over the public calls; c/station.h declares them.
 // Each returns number + 256 · place, 0 for success, and a refused one changes no byte that it was lent.
+#![tactic(auto)]
+
 ghost use Rattle.std.specs.Prelude.{◌++◌, ◌≡◌, ◌≤◌, length, take};
 ghost use Rattle.dump.specs.Dump.{soft_of};
 ghost use Rattle.concatenated.specs.Data.{digits};
@@ -141,7 +143,7 @@ fn returned_page(outcome: PageOutcome, report: &mut [u8]) -> u64
     let erased = told.erased_marks;
     let low = told.low;
     let front = steps_and_totals(told);
-    bytes::copy(&front, report);
+    report.copy_from_slice(&front);
     write_marks(changed, erased, &mut report[0..76]);
     write_low(low, &mut report[76..78]);
     returned_number(number, place)

@@ -2,6 +2,8 @@
 //
 // The argument. A job is asked and searched by the functions of the single call, so its answer is that call's. The search asks nothing of what its arrays hold, so one set of them serves the whole list.
 // The loop over the list only hands each job on and puts it back: what is proved of it by hand is no more than that.
+#![tactic(auto)]
+
 ghost use Rattle.std.specs.Prelude.{◌≡◌, map};
 ghost use Rattle.trellis.specs.Demand.{supercode};
 ghost use Rattle.trellis.specs.TwoWords.{off};
@@ -15,7 +17,7 @@ use searches::SearchAnswer;
 
 // A job: the level and the first byte of its column in the soft buffer, and its answer: the number and place and, where a word was found, the word, the count and the low point.
 #[repr(C)]
-#[derive(Drop)]
+#[derive(Clone, Copy)]
 pub struct Job {
     pub level: u64,
     pub first: u64,

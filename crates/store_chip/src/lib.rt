@@ -1,4 +1,6 @@
 // The chip model: 02, point 5. The calls answer as a chip does whose stack has 64 places; their answers say whether any path was pushed out of it.
+#![tactic(auto)]
+
 ghost use Rattle.std.specs.Prelude.{◌≡◌};
 ghost use Rattle.concatenated.specs.Chip.{chip_column};
 ghost use Rattle.searches.specs.Searches.{Allowed};

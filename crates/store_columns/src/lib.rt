@@ -1,4 +1,6 @@
 // Column calls: 01, "Field and column".
+#![tactic(auto)]
+
 ghost use Rattle.std.specs.Prelude.{◌≡◌, ◌<◌};
 ghost use Rattle.questions.specs.Answer.{Answered};
 ghost use Rattle.store_columns.specs.Columns.{encode_answer, level_word_answer, reimage_answer};

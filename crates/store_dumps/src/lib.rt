@@ -1,4 +1,6 @@
 // Dump calls: 01, "The dump".
+#![tactic(auto)]
+
 ghost use Rattle.std.specs.Prelude.{◌≡◌, ◌<◌, length};
 ghost use Rattle.dump.specs.Dump.{dump_of, soft_of};
 ghost use Rattle.questions.specs.Outcome.{Filled, number};

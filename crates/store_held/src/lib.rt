@@ -1,5 +1,7 @@
 // Held searches: 02, point 13. A spent supercode search is held under one of four names and taken up later with more steps.
 // The store of names goes in and comes back by value: 56 KB, so a call and its caller need some 0.4 MB of stack.
+#![tactic(auto)]
+
 ghost use Rattle.std.specs.Prelude.{◌≡◌};
 ghost use Rattle.questions.specs.declared.Outcome.TheVariants.{Done, Refused};
 ghost use Rattle.store_held.specs.Names.{ask_hold, ask_more};

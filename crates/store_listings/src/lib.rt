@@ -1,4 +1,6 @@
 // Listings of the paths that a search takes: 02, point 11.
+#![tactic(auto)]
+
 ghost use Rattle.std.specs.Prelude.{◌≡◌};
 ghost use Rattle.paths.specs.Listings.{judged};
 ghost use Rattle.search.specs.Outcomes.{search_of};

@@ -1,4 +1,6 @@
 // Page calls: 01, "Rows and page", and 02: point 1, list of two; point 7, asking and committing.
+#![tactic(auto)]
+
 ghost use Rattle.std.specs.Prelude.{◌≡◌, ◌*◌, ◌<◌, length};
 ghost use Rattle.trellis.specs.Demand.{whole, supercode};
 ghost use Rattle.concatenated.specs.Format.{short_page};

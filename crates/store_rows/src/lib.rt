@@ -1,4 +1,6 @@
 // Row calls: 01, "Rows and page".
+#![tactic(auto)]
+
 ghost use Rattle.std.specs.Prelude.{◌≡◌, ◌<◌};
 ghost use Rattle.reedsolomon.specs.Row.{outer_answer, encoded_row, word_of};
 ghost use Rattle.reedsolomon.specs.ShortRows.{short_roots};

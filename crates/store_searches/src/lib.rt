@@ -1,4 +1,6 @@
 // Column searches: 01, "The search", and 02, point 1, list of two.
+#![tactic(auto)]
+
 ghost use Rattle.std.specs.Prelude.{true, ◌≡◌};
 ghost use Rattle.column.specs.Shape.{short};
 ghost use Rattle.trellis.specs.Values.{level_values};

@@ -1,0 +1,16 @@
+-- `census::count_patterns` meets its contract: it counts from the start of the column without flips. Assumes nothing.
+use mathlib.Core.Path.{◌∙◌}
+use Rattle.census.proofs.Behind.{unflipped, from_the_start}
+use Rattle.census.proofs.count_patterns.Goals as goal
+
+pub count_from-requires : goal.count_from-requires
+count_from-requires c =
+    let start = c in
+    (start.requires.0, start.requires.1, unflipped start.args.level start.requires.2)
+
+pub returns : goal.returns
+returns c =
+    let args = c.args in record {
+        room = c.count_from.ensures.room;
+        value = c.count_from.ensures.value ∙ from_the_start args.level args.ones;
+      }

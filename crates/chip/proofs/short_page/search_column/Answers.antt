@@ -1,0 +1,17 @@
+-- `chip::short_page::search_column` meets its contract: by the law that the search on keys is the search. Assumes nothing.
+use Rattle.trellis.specs.Values.{level_values}
+use Rattle.trellis.specs.Demand.{supercode}
+use Rattle.search.proofs.ShortSearch.{given_short, level_table}
+use Rattle.chip.proofs.ShortSearch.{search_short}
+use Rattle.chip.proofs.short_page.search_column.Goals as goal
+
+pub search-requires : goal.search-requires
+search-requires c =
+    let start = c in
+    (given_short _ _ _ _ start.requires.searchable30, start.requires.1)
+
+pub returns : goal.returns
+returns c = record {
+        places_2 = c.search.ensures.places_2;
+        by_index = λ i h tables. search_short i h _ _ _ _ tables _ _ (c.search.ensures.value (level_values i) (level_table supercode i _ _ _ tables));
+      }

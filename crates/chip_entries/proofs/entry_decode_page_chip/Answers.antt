@@ -1,0 +1,10 @@
+-- `chip_entries::entry_decode_page_chip` meets its contract: the call's outcome, as numbers. Assumes nothing.
+use mathlib.Core.Path.{ap}
+use Rattle.entries.specs.declared.PageReply.{PageReply}
+use borrow.Author.Rules.{rules}
+use Rattle.chip_entries.proofs.entry_decode_page_chip.Goals as goal
+
+pub returns : goal.returns
+returns c =
+    let call = c in
+    record { outcome = _; decoded = call.decode_page_chip-decoded.ensures; told = ap (λ (r : PageReply). record { page = r; pushed = call.decode_page_chip-decoded.result.pushed }) c.numbers_of_page.ensures }

@@ -1,0 +1,16 @@
+-- `correction::wrong` meets its contract: one column a turn of the loop. Assumes nothing.
+use mathlib.Core.Path.{◌≡◌, ap, ◌∙◌}
+use Prim.Native.Nat.{ℕ, ◌+◌, ◌-◌, ◌≤◌}
+use native.Mathlib.Decide.{ℕ_discrete}
+use Rattle.reedsolomon.specs.Words.{errors}
+use Rattle.reedsolomon.specs.Row.{symbol, marked}
+use Rattle.reedsolomon.proofs.Marks.{none_wrong, wrongs_at_most, one_more_compared}
+use native.Mathlib.Omega.{arith}
+use borrow.Author.Rules.{rules}
+use Rattle.correction.proofs.wrong.Given as goal
+
+abbrev pub invariant-loop-j : goal.invariant-loop-j
+invariant-loop-j l = (l.j ≤ 63) × (l.e ≡ errors ℕ_discrete (marked l.marks) l.j (symbol l.w) (symbol l.v))
+
+abbrev pub decreases-loop-j : goal.decreases-loop-j
+decreases-loop-j l = 63 - l.j

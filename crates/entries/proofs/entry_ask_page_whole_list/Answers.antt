@@ -1,0 +1,12 @@
+-- `entries::entry_ask_page_whole_list` meets its contract: the call's outcome, as numbers. Assumes nothing.
+use mathlib.Core.Bool.{true}
+use Rattle.trellis.specs.Demand.{whole}
+use Rattle.store_pages.proofs.Asked.{as_handed_on}
+use borrow.Author.Rules.{rules}
+use Rattle.entries.proofs.entry_ask_page_whole_list.Goals as goal
+
+pub returns : goal.returns
+returns c =
+    let call = c in
+    let start = call in
+    record { outcome = _; filled = as_handed_on true start.args.threshold start.ranges.threshold whole call.ask_page_whole_list.ensures; told = c.numbers_of_page.ensures }

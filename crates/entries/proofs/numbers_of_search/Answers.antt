@@ -1,0 +1,16 @@
+-- `entries::numbers_of_search` meets its contract, case by case. Assumes nothing.
+use mathlib.Core.Path.{sym, ap, ◌∙◌}
+use lib.IntN.{ℤ}
+use mir.Facts.{to_z-of_z}
+use Rattle.searches.specs.declared.SearchAnswer.TheVariants.{Found}
+use Rattle.entries.specs.Told.{found_of}
+use borrow.Author.Rules.{rules}
+use Rattle.entries.proofs.numbers_of_search.Goals as goal
+
+pub returns-in-Found : goal.returns-in-Found
+returns-in-Found c =
+    let told = c.answer-1.given in
+    ap (λ (z : ℤ). found_of (Found told.0.0 told.0.1.0 z)) (to_z-of_z (record { sfits = c.known_told-1.given.1.1.0.1 })) ∙ sym (ap found_of told.1)
+
+pub returns-in-Refused : goal.returns-in-Refused
+returns-in-Refused c = sym (ap found_of c.answer-in-Refused-1.given.1)

@@ -1,0 +1,50 @@
+use mathlib.Core.Path.{◌≡◌, sym, ap}
+use mathlib.Core.List.{◌++◌}
+use Prim.Native.Nat.{◌-◌, ◌*◌, ◌≤◌}
+use native.Mathlib.Omega.{arith}
+use borrow.Author.Rules.{rules}
+use Rattle.stack.specs.Places.{Room}
+use Rattle.census.specs.declared.Totals.{Totals}
+use Rattle.listing.specs.Text.{Appended}
+use Rattle.listing.specs.Lines.{census_line}
+use Rattle.listing.proofs.Appended.{appended_none, as_text, one_line_more}
+use Rattle.flipcensus.specs.Text.{line_of, level_text}
+use Rattle.flipcensus.proofs.append_level.Goals as goal
+
+pub loop-ones-init : goal.loop-ones-init
+unfolding level_text
+loop-ones-init c = (omega arith, c.requires.0, appended_none _ _)
+
+pub count_patterns-t-requires : goal.count_patterns-t-requires
+count_patterns-t-requires c =
+    let turn = c in
+    let start = turn in
+    (turn.loop-ones.invariant.1, start.requires.1, start.requires.2)
+
+pub append_census-end-requires : goal.append_census-end-requires
+append_census-end-requires c =
+    let turn = c in
+    let done = turn.loop-ones.invariant.2 in
+    omega (arith, done.reach, done.size, turn.requires.3, c.loop-ones-test.true)
+
+pub loop-ones-preserved : goal.loop-ones-preserved
+unfolding level_text line_of
+loop-ones-preserved c =
+    let counted = c in
+    let test = counted in
+    let turn = test in
+    let level = turn.args.level in
+    let ones = turn.loop-ones.ones in
+    let line = ap (λ (t : Totals). level_text level ones ++ census_line level ones t.zero t.other t.spent) (sym counted.count_patterns-t.ensures.value) in
+    (omega (arith, test.loop-ones-test.true), counted.count_patterns-t.ensures.room, one_line_more (level_text level) 133 ones line turn.loop-ones.invariant.2 c.append_census-end.ensures)
+
+pub shape_of-out : goal.shape_of-out
+shape_of-out c = c.loop-ones.invariant.2.size
+
+pub returns : goal.returns
+returns c =
+    let done = c.loop-ones.invariant in
+    let all : c.loop-ones.ones ≡ 4 = omega (arith, done.0, c.loop-ones-test.false) in record {
+        room = done.1;
+        appended = as_text (ap (level_text c.args.level) all) (omega (arith, all)) done.2;
+      }

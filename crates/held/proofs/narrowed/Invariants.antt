@@ -1,0 +1,17 @@
+-- `held::narrowed` meets its contract: the first k are filled. Assumes nothing.
+use mathlib.Core.Path.{◌≡◌, refl, sym, ◌∙◌}
+use Prim.Native.Nat.{ℕ, ◌-◌, ◌≤◌, ◌<◌}
+use lib.ListN.{length, length-set, get_or, get_or-eq_default}
+use mathlib.Core.List.{List}
+use native.Mathlib.Decide.{dec_le}
+use native.Mathlib.Nat.{mod-eq_of_lt}
+use Rattle.held.proofs.Widths.{one_more_filled}
+use native.Mathlib.Omega.{arith}
+use borrow.Author.Rules.{rules}
+use Rattle.held.proofs.narrowed.Given as goal
+
+abbrev pub invariant-loop-k : goal.invariant-loop-k
+invariant-loop-k l = (l.k ≤ 2002) × (length l.narrow ≡ 2002) × ((j : ℕ) → j < l.k → get_or l.bits j 0 < 4294967296 → get_or l.narrow j 0 ≡ get_or l.bits j 0)
+
+abbrev pub decreases-loop-k : goal.decreases-loop-k
+decreases-loop-k l = 2002 - l.k

@@ -1,0 +1,15 @@
+-- `held::widened` meets its contract: the first k are filled. Assumes nothing.
+use mathlib.Core.Path.{◌≡◌, refl, sym, ◌∙◌}
+use Prim.Native.Nat.{ℕ, ◌-◌, ◌≤◌, ◌<◌}
+use lib.ListN.{length, length-set, get_or}
+use lib.Seq.{ext_get_or}
+use Rattle.held.proofs.Widths.{one_more_filled}
+use native.Mathlib.Omega.{arith}
+use borrow.Author.Rules.{rules}
+use Rattle.held.proofs.widened.Given as goal
+
+abbrev pub invariant-loop-k : goal.invariant-loop-k
+invariant-loop-k l = (l.k ≤ 2002) × (length l.wide ≡ 2002) × ((j : ℕ) → j < l.k → get_or l.wide j 0 ≡ get_or l.bits j 0)
+
+abbrev pub decreases-loop-k : goal.decreases-loop-k
+decreases-loop-k l = 2002 - l.k

@@ -1,0 +1,10 @@
+-- `held_entries::entry_take_up` meets its contract: the call's outcome, its answer as numbers. Assumes nothing.
+use mathlib.Core.Path.{ap}
+use Rattle.entries.specs.declared.Found.{Found}
+use borrow.Author.Rules.{rules}
+use Rattle.held_entries.proofs.entry_take_up.Goals as goal
+
+pub returns : goal.returns
+returns c =
+    let call = c in
+    record { outcome = _; call = call.take_up-outcome.ensures; told = ap (λ (r : Found). record { found = r; store = call.take_up-outcome.result.store }) c.numbers_of_search.ensures }

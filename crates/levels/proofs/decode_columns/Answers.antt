@@ -1,0 +1,40 @@
+use native.Mathlib.Omega.{arith}
+use mir.Syntax.{w16}
+use mir.Val.{to_z}
+use mir.Facts.{to_z-of_z}
+use Prim.Native.Nat.{◌-◌}
+use Rattle.stack.specs.Places.{Room}
+use Rattle.search.specs.Outcomes.{search_of}
+use Rattle.list_of_two.specs.Ways.{choice_of}
+use Rattle.readings.specs.Steps.{way_reader}
+use Rattle.concatenated.proofs.Readings.{short_readers_read_words}
+use Rattle.concatenated.proofs.Lows.{short_page_low_from}
+use Rattle.levels.proofs.LevelRuns.{Decoding, decoding_none, decoding_more, decoding_refused, decoding_answered}
+use borrow.Author.Tests.{not-true, not-false}
+use borrow.Author.Rules.{rules}
+use Rattle.levels.proofs.decode_columns.Goals as goal
+
+pub loop-level-init : goal.loop-level-init
+loop-level-init c = (decoding_none _ _ _ _ _ c.requires.1 c.requires.3 c.requires.4 c.requires.5, c.requires.2)
+
+pub decode_level-out-requires : goal.decode_level-out-requires
+decode_level-out-requires c =
+    let turn = c in
+    let start = turn in
+    (c.loop-level-test.true, start.requires.0, turn.loop-level.invariant.0.soft, turn.loop-level.invariant.1)
+
+pub returns-then-not-settled : goal.returns-then-not-settled
+returns-then-not-settled c =
+    let turn = c in
+    decoding_refused _ _ _ _ _ _ _ _ _ turn.loop-level.invariant.0 c.loop-level-test.true _ _ c.decode_level-out.ensures.0 (not-true _ c.if-not-settled.true) _ _ _
+
+pub loop-level-preserved : goal.loop-level-preserved
+loop-level-preserved c =
+    let turn = c in
+    let done = c.decode_level-out.ensures in
+    (decoding_more _ _ _ _ _ _ _ _ _ turn.loop-level.invariant.0 c.loop-level-test.true _ _ done.0 (not-false _ c.if-not-settled.false) done.1 done.2 _ (omega arith) _ (to_z-of_z (record { sfits = c.struct_told-1.given.1.1.1.1.0.1 })), done.3)
+
+pub returns : goal.returns
+returns c =
+    let a = c in
+    decoding_answered _ _ _ _ _ _ _ _ _ c.loop-level.invariant.0 c.loop-level-test.false (short_page_low_from a.args.way.limit _ (short_readers_read_words (choice_of a.args.way) (search_of a.args.way.in_supercodes) a.args.way.limit) _ a.requires.1.many)

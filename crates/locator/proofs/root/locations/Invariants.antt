@@ -1,0 +1,15 @@
+-- `locator::root::locations` meets its contract: one column a turn of the loop. Assumes nothing.
+use mathlib.Core.Path.{◌≡◌}
+use Prim.Native.Nat.{◌-◌, ◌≤◌}
+use lib.ListN.{length, length-set}
+use Rattle.reedsolomon.specs.Steps.{Flagged}
+use Rattle.reedsolomon.proofs.Marks.{none_flagged, one_more_flagged}
+use native.Mathlib.Omega.{arith}
+use borrow.Author.Rules.{rules}
+use Rattle.locator.proofs.root.locations.Given as goal
+
+abbrev pub invariant-loop-j : goal.invariant-loop-j
+invariant-loop-j l = (l.j ≤ 63) × (length l.flags ≡ 64) × Flagged 6 67 l.j l.marks l.values l.flags
+
+abbrev pub decreases-loop-j : goal.decreases-loop-j
+decreases-loop-j l = 63 - l.j

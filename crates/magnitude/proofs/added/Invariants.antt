@@ -1,0 +1,19 @@
+-- `magnitude::added` meets its contract: one column a turn of the loop. Assumes nothing.
+use mathlib.Core.Path.{◌≡◌, ap, ◌∙◌}
+use mathlib.Core.Logic.{⊎_elim}
+use Prim.Native.Nat.{◌-◌, ◌≤◌}
+use lib.ListN.{length, length-set}
+use Rattle.reedsolomon.specs.Words.{count}
+use Rattle.reedsolomon.specs.Row.{marked}
+use Rattle.reedsolomon.specs.Steps.{Added}
+use Rattle.reedsolomon.proofs.Counting.{count_at_most}
+use Rattle.reedsolomon.proofs.Marks.{none_counted, one_more_marked, one_more_unmarked, none_added, one_more_added, one_more_passed}
+use native.Mathlib.Omega.{arith}
+use borrow.Author.Rules.{rules}
+use Rattle.magnitude.proofs.added.Given as goal
+
+abbrev pub invariant-loop-j : goal.invariant-loop-j
+invariant-loop-j l = (l.j ≤ 63) × (length l.v ≡ 64) × (l.k ≡ count (marked l.flags) l.j) × Added 6 67 l.j l.flags l.ys l.initial.v l.v
+
+abbrev pub decreases-loop-j : goal.decreases-loop-j
+decreases-loop-j l = 63 - l.j

@@ -1,0 +1,43 @@
+-- `measured::chip_searches::measured_chip_searches` meets its contract: each return rewrites with the tests that led there. Assumes nothing.
+use mathlib.Core.Path.{subst}
+use Prim.Native.Nat.{ℕ, ◌≤◌, ◌<◌}
+use lib.ListN.{length}
+use borrow.Author.Tests.{le-ltb, lt-ltb, le-leb, lt-leb}
+use Rattle.questions.specs.Questions.{first_above}
+use Rattle.questions.proofs.FirstAbove.{below_first}
+use native.Mathlib.Omega.{arith}
+use borrow.Author.Rules.{rules}
+use Rattle.measured.proofs.chip_searches.measured_chip_searches.Goals as goal
+
+pub returns-then-level-ge4 : goal.returns-then-level-ge4
+returns-then-level-ge4 c = simp (le-ltb _ _ c.if-level-ge4.true)
+
+pub returns-then-limit-gt2000 : goal.returns-then-limit-gt2000
+returns-then-limit-gt2000 c = simp (lt-ltb _ _ c.if-level-ge4.false, lt-leb _ _ c.if-limit-gt2000.true)
+
+pub returns-then-first_above-soft : goal.returns-then-first_above-soft
+returns-then-first_above-soft c =
+    let told = c in
+    let limited = told in
+    let soft = limited.args.soft.now in
+    let bad : first_above soft 7 < length soft = subst (λ (t : ℕ). t < length soft) told.first_above.ensures c.if-first_above-soft.true in
+    simp (lt-ltb _ _ limited.if-level-ge4.false, le-leb _ _ limited.if-limit-gt2000.false, lt-leb _ _ bad)
+
+pub search_all-requires : goal.search_all-requires
+search_all-requires c =
+    let told = c in
+    let limited = told in
+    let soft = limited.args.soft.now in
+    let values : length soft ≤ first_above soft 7 = subst (λ (t : ℕ). length soft ≤ t) told.first_above.ensures c.if-first_above-soft.false in record {
+        level_bound = limited.if-level-ge4.false;
+        by_index = λ k h. below_first soft 7 k (omega arith);
+      }
+
+pub returns : goal.returns
+returns c =
+    let good = c in
+    let told = good in
+    let limited = told in
+    let soft = limited.args.soft.now in
+    let values : length soft ≤ first_above soft 7 = subst (λ (t : ℕ). length soft ≤ t) told.first_above.ensures good.if-first_above-soft.false in
+    simp (lt-ltb _ _ limited.if-level-ge4.false, le-leb _ _ limited.if-limit-gt2000.false, le-leb _ _ values, c.search_all.ensures)

@@ -1,0 +1,62 @@
+use mathlib.Core.Path.{◌≡◌, refl, ap, ◌∙◌}
+use Prim.Native.Nat.{ℕ, ◌+◌, ◌-◌, ◌%◌, ◌≤◌, ◌<◌}
+use lib.ListN.{length, take, drop}
+use Rattle.trellis.specs.Demand.{supercode}
+use Rattle.search.proofs.ShortSearch.{column_searchable}
+use Rattle.chip.specs.Places.{Places}
+use Rattle.chip.proofs.ShortSearch.{leading_tables}
+use Rattle.measured.specs.Folds.{chip_folded, chip_number}
+use Rattle.measured.proofs.Parts.{part_long, part_range, Folded, none_folded, one_more_folded, all_folded}
+use native.Mathlib.Omega.{arith}
+use borrow.Author.Rules.{rules}
+use Rattle.measured.proofs.chip_searches.search_all.Invariants.{invariant-loop-a, decreases-loop-a}
+use Rattle.measured.proofs.chip_searches.search_all.Goals as goal
+
+-- where the tables of the search were made
+abbrev made_of : goal.At-loop-a invariant-loop-a decreases-loop-a → goal.After-tables_of-tables invariant-loop-a decreases-loop-a
+made_of at_loop = at_loop.before
+
+abbrev start : goal.At-loop-a invariant-loop-a decreases-loop-a → goal.Start invariant-loop-a decreases-loop-a
+start at_loop = (made_of at_loop).before.before
+
+pub loop-a-init : goal.loop-a-init
+loop-a-init c = (search rules, search rules, record { sums = refl; lens = refl; bits = refl }, none_folded _ _)
+
+pub search_column-ended-requires : goal.search_column-ended-requires
+search_column-ended-requires c =
+    let at_loop = c in
+    let a = start at_loop in
+    let soft = a.args.soft.now in
+    let from = at_loop.loop-a.a in
+    let fits : from + 30 ≤ length soft = omega (arith, at_loop.loop-a.invariant.0) in
+    let tables = (made_of at_loop).tables-of.ensures in record {
+        searchable30 = column_searchable supercode a.args.level a.pre.0 (take (from + 30 - from) (drop from soft)) _ _ _ (part_long soft from fits) (part_range soft from fits a.pre.1) tables;
+        leading = leading_tables a.args.level a.pre.0 _ _ _ tables;
+        places = at_loop.loop-a.invariant.2;
+      }
+
+pub loop-a-preserved : goal.loop-a-preserved
+loop-a-preserved c =
+    let found = c in
+    let turn = found in
+    let at_loop = turn in
+    let a = start at_loop in
+    let soft = a.args.soft.now in
+    let from = at_loop.loop-a.a in
+    let inv = at_loop.loop-a.invariant in
+    let fits : from + 30 ≤ length soft = omega (arith, inv.0, turn.loop-a-test.true) in
+    let whole : (from + 30) % 30 ≡ 0 = omega (arith, inv.1) in
+    let outcome = found.search_column-ended.ensures.by_index a.args.level a.pre.0 (made_of at_loop).tables-of.ensures in (
+      fits,
+      whole,
+      found.search_column-ended.ensures.places_2,
+      one_more_folded (chip_number a.args.level a.args.limit) soft from _ _ inv.1 inv.3 (c.chip_folded-fold.ensures ∙ ap chip_folded outcome),
+    )
+
+pub returns : goal.returns
+returns c =
+    let at_loop = c in
+    let inv = at_loop.loop-a.invariant in
+    let soft = (start at_loop).args.soft.now in
+    let last : length soft - at_loop.loop-a.a < 30 = omega (arith, c.loop-a-test.false) in
+    all_folded _ soft _ _ inv.1 inv.0 last inv.3

@@ -1,0 +1,58 @@
+use mathlib.Core.Bool.{Bool}
+use mathlib.Core.List.{List, []}
+use mathlib.Core.Path.{◌≡◌, refl, sym, ap₂, ◌∙◌}
+use Prim.Native.Nat.{ℕ, ◌+◌, ◌-◌, ◌*◌, ◌≤◌, ◌<◌}
+use lib.ListN.{get_or, take, drop}
+use borrow.Author.Tests.{not-true, not-false}
+use Rattle.reedsolomon.specs.Row.{is_codeword}
+use Rattle.reedsolomon.specs.ShortRows.{short_roots}
+use Rattle.reedsolomon.proofs.Answers.{word_is_of_symbols}
+use Rattle.concatenated.specs.Format.{short_page}
+use Rattle.concatenated.specs.Symbols.{rows_in, lowest_no_word}
+use Rattle.concatenated.specs.OuterCode.{is_short_codeword}
+use Rattle.concatenated.proofs.DataGroups.{row_cut_out, cut_out_row_is_a_word}
+use Rattle.concatenated.proofs.Symbols.{as_many_rows_in, lowest_lies_above, lowest_is_here, lowest_is_none}
+use native.Mathlib.Omega.{arith}
+use borrow.Author.Rules.{rules}
+use Rattle.page.proofs.lowest_no_word.Goals as goal
+
+-- the row of a level, as it is cut out; what is tested of it is whether it is a word
+abbrev row_from : List ℕ → ℕ → List ℕ
+row_from symbols level = take (level * 63 + 63 - level * 63) (drop (level * 63) symbols)
+
+tested : (symbols : List ℕ) (level t : ℕ) (r : Bool) → level < 4 → t ≡ short_roots level → r ≡ is_codeword 6 67 63 t (row_from symbols level)
+    → r ≡ is_short_codeword level (get_or (rows_in short_page symbols) level [])
+unfolding is_short_codeword
+tested symbols level t r h et e = e ∙ ap₂ (is_codeword 6 67 63) et (row_cut_out symbols level _ _ h refl refl)
+
+pub loop-level-init : goal.loop-level-init
+loop-level-init c = (omega arith, refl)
+
+pub is_codeword-requires : goal.is_codeword-requires
+is_codeword-requires c =
+    let turn = c in
+    let symbols = turn.args.symbols.now in
+    let row = cut_out_row_is_a_word symbols turn.requires turn.loop-level.level _ _ c.loop-level-test.true refl refl in
+    (row.0, word_is_of_symbols 6 63 (row_from symbols turn.loop-level.level) row, c.roots.ensures.1)
+
+pub returns-then-not-is_codeword : goal.returns-then-not-is_codeword
+returns-then-not-is_codeword c =
+    let turn = c in
+    let h = c.loop-level-test.true in
+    let symbols = turn.args.symbols.now in
+    let none = sym (tested symbols turn.loop-level.level _ _ h c.roots.ensures.0 c.is_a_codeword.ensures) ∙ not-true _ c.if-not-is_codeword.true in
+    sym (turn.loop-level.invariant.1 ∙ lowest_is_here is_short_codeword (rows_in short_page symbols) turn.loop-level.level (omega (arith, as_many_rows_in short_page symbols, h)) none)
+
+pub loop-level-preserved : goal.loop-level-preserved
+loop-level-preserved c =
+    let turn = c in
+    let h = c.loop-level-test.true in
+    let symbols = turn.args.symbols.now in
+    let word = sym (tested symbols turn.loop-level.level _ _ h c.roots.ensures.0 c.is_a_codeword.ensures) ∙ not-false _ c.if-not-is_codeword.false in
+    (omega arith, turn.loop-level.invariant.1 ∙ lowest_lies_above is_short_codeword (rows_in short_page symbols) turn.loop-level.level (omega (arith, as_many_rows_in short_page symbols, h)) word)
+
+pub returns : goal.returns
+returns c =
+    let turn = c in
+    let symbols = turn.args.symbols.now in
+    sym (turn.loop-level.invariant.1 ∙ lowest_is_none is_short_codeword (rows_in short_page symbols) turn.loop-level.level (omega (arith, as_many_rows_in short_page symbols, turn.loop-level.invariant.0, c.loop-level-test.false)))

@@ -1,0 +1,25 @@
+-- `station::returned_page` meets its contract: the report is written where the number is 0. Assumes nothing.
+use mathlib.Core.Path.{ap, ◌∙◌}
+use mir.Syntax.{w16}
+use mir.Val.{SFits}
+use mir.Facts.{to_z-of_z}
+use borrow.Author.Tests.{eq-eqb, ne_eqb}
+use Rattle.station.specs.Report.{low_bytes}
+use Rattle.station.proofs.Marking.{report_is}
+use borrow.Author.Rules.{rules}
+use Rattle.station.proofs.returned_page.Goals as goal
+
+pub returns-then-number-ne0 : goal.returns-then-number-ne0
+returns-then-number-ne0 c = (c.returned_number.ensures, simp (ne_eqb _ _ c.if-number-ne0.true))
+
+pub returns : goal.returns
+returns c =
+    let low_written = c in
+    let written = low_written in
+    let copied = written in
+    let made = copied in
+    let start = c in
+    let told = start.args.outcome.report in
+    let fits : SFits w16 told.low = record { sfits = made.struct_told-1.given.1.1.1.1.1.0.1 } in
+    let is = report_is told _ _ _ _ _ start.requires.2 made.steps_and_totals-front.ensures copied.copy.ensures.1 written.write_marks.ensures (low_written.write_low.ensures ∙ ap low_bytes (to_z-of_z fits)) in
+    (c.returned_number-2.ensures, simp (eq-eqb _ _ made.if-number-ne0.false) is)

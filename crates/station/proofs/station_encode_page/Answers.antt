@@ -1,0 +1,18 @@
+-- `station::station_encode_page` meets its contract: the call's outcome as one number, and its bytes. Assumes nothing.
+use mathlib.Core.Path.{ap, ◌∙◌, subst⁻¹}
+use Rattle.questions.specs.declared.Outcome.{Outcome}
+use Rattle.questions.specs.Outcome.{number, place}
+use Rattle.station.specs.Returned.{returned}
+use Rattle.station.proofs.Places.{SmallOutcome, encode_small}
+use borrow.Author.Rules.{rules}
+use Rattle.station.proofs.station_encode_page.Goals as goal
+
+pub returned_outcome-requires : goal.returned_outcome-requires
+returned_outcome-requires c =
+    let args = c.args in
+    subst⁻¹ SmallOutcome c.encode_page.ensures.answer (encode_small args.«data».now args.page-1.now)
+
+pub returns : goal.returns
+returns c =
+    let filled = c.encode_page.ensures in
+    record { answer = c.returned_outcome.ensures ∙ ap (λ (o : Outcome). returned (number o) (place o)) filled.answer; bytes = filled.bytes }

@@ -1,0 +1,7 @@
+-- `station::steps_and_totals` meets its contract: the four bytes of the steps, and the totals one by one. Assumes nothing.
+use borrow.Author.Rules.{rules}
+use Rattle.station.proofs.Bytes.{four_bytes}
+use Rattle.station.proofs.steps_and_totals.Goals as goal
+
+pub returns : goal.returns
+returns c = four_bytes _ _

@@ -1,0 +1,13 @@
+-- `station::write_low` meets its contract: two bytes over two. Assumes nothing.
+use mathlib.Core.Path.{ap, ◌∙◌}
+use Rattle.packing.specs.Packing.{sixteen_bits}
+use mir.Facts.{to_z-of_z}
+use Rattle.concatenated.specs.Data.{digits}
+use Rattle.station.proofs.Bytes.{two_bytes_written}
+use borrow.Author.Rules.{rules}
+use Rattle.station.proofs.write_low.Goals as goal
+
+pub returns : goal.returns
+returns c =
+    let start = c in
+    two_bytes_written start.args.out.now _ start.requires ∙ ap (digits 256 2) (c.sixteen_bits-bits.ensures ∙ ap sixteen_bits (to_z-of_z start.ranges.low))

@@ -1,0 +1,32 @@
+-- `store_batches::search_column` meets its contract: the questions' answer settles which case it is. Assumes nothing.
+use mathlib.Core.Path.{sym, ◌∙◌}
+use Rattle.trellis.specs.TwoWords.{off}
+use Rattle.questions.specs.declared.Outcome.TheVariants.{Done}
+use Rattle.searches.specs.declared.SearchAnswer.TheVariants.{Refused}
+use Rattle.searches.proofs.Questions.{ready, settled}
+use borrow.Author.Rules.{rules}
+use Rattle.store_batches.proofs.search_column.Goals as goal
+
+pub search_supercodes-requires : goal.search_supercodes-requires
+search_supercodes-requires c =
+    let told = c in
+    let asked = told in
+    let start = asked in
+    (start.requires.0, start.requires.1, (ready off start.args.level start.args.column.now start.args.limit (sym asked.asked.ensures ∙ told.enum_told-1.given.1)).0)
+
+pub returns-in-Done : goal.returns-in-Done
+returns-in-Done c =
+    let told = c in
+    let asked = told in
+    let start = asked in record {
+        room = c.search_supercodes.ensures.room;
+        value = c.search_supercodes.ensures.value ∙ sym (settled off start.args.level start.args.column.now start.args.limit Refused _ Done (sym told.enum_told-1.given.1 ∙ asked.asked.ensures));
+      }
+
+pub returns-in-Refused : goal.returns-in-Refused
+returns-in-Refused c =
+    let asked = c in
+    let start = asked in record {
+        room = start.requires.0;
+        value = sym (settled off start.args.level start.args.column.now start.args.limit Refused _ _ (sym c.n-1.given.1 ∙ asked.asked.ensures));
+      }

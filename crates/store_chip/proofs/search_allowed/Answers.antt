@@ -1,0 +1,46 @@
+-- `store_chip::search_allowed` meets its contract: the tables are those of the supercode search, and the outcome is told. Assumes nothing.
+use mathlib.Core.Path.{◌≡◌, refl, sym}
+use mir.Syntax.{w16}
+use mir.Facts.{to_z-of_z}
+use Rattle.trellis.specs.Demand.{supercode}
+use Rattle.search.proofs.ShortSearch.{column_searchable}
+use Rattle.concatenated.specs.Chip.{chip_column}
+use Rattle.chip.specs.Outcomes.{code_outcome}
+use Rattle.chip.proofs.ShortSearch.{leading_tables}
+use Rattle.store_chip.proofs.Answers.{word_is_answered, empty_is_13, spent_is_9}
+use native.Mathlib.Omega.{arith}
+use borrow.Author.Rules.{rules}
+use Rattle.store_chip.proofs.search_allowed.Goals as goal
+
+-- what the search gives
+abbrev start : goal.After-search_column-ended → goal.Start
+start found = found.before
+
+outcome_is : (found : goal.After-search_column-ended) → found.search_column-ended.result ≡ code_outcome (chip_column (start found).args.limit (start found).args.level (start found).args.soft.now)
+outcome_is found = found.search_column-ended.ensures.by_index (start found).args.level (start found).requires.level found.tables_of-tables.ensures
+
+pub search_column-ended-requires : goal.search_column-ended-requires
+search_column-ended-requires c =
+    let start = c in
+    let tables = c.tables_of-tables.ensures in
+    let allowed = start.requires in record {
+        searchable30 = column_searchable supercode start.args.level allowed.level start.args.soft.now _ _ _ allowed.full allowed.range tables;
+        leading = leading_tables start.args.level allowed.level _ _ _ tables;
+        places = record { sums = refl; lens = refl; bits = refl };
+      }
+
+pub returns-in-Found : goal.returns-in-Found
+returns-in-Found c =
+    let found = c in
+    let told = c.found-1.given in
+    word_is_answered (start found).args.limit _ _ (outcome_is found) _ _ _ _ told.1 (to_z-of_z {w = w16} (record { sfits = c.known_told-1.given.1.1.0.1 }))
+
+pub returns-then-ended-limit : goal.returns-then-ended-limit
+returns-then-ended-limit c =
+    let found = c in
+    empty_is_13 (start found).args.limit _ _ (outcome_is found) c.enum_told-1.given.1 c.if-ended-limit.true
+
+pub returns-else-ended-limit : goal.returns-else-ended-limit
+returns-else-ended-limit c =
+    let found = c in
+    spent_is_9 (start found).args.limit _ _ (outcome_is found) c.enum_told-1.given.1 c.if-ended-limit.false

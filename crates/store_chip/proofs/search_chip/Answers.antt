@@ -1,0 +1,27 @@
+-- `store_chip::search_chip` meets its contract: the questions' answer settles which case it is. Assumes nothing.
+use mathlib.Core.Path.{sym, ◌∙◌}
+use borrow.Author.Rules.{rules}
+use Rattle.trellis.specs.TwoWords.{off}
+use Rattle.questions.specs.declared.Outcome.TheVariants.{Done}
+use Rattle.searches.proofs.Questions.{ready, settled}
+use Rattle.store_chip.specs.Chip.{refused_search}
+use Rattle.store_chip.proofs.search_chip.Goals as goal
+
+pub search_allowed-requires : goal.search_allowed-requires
+search_allowed-requires c =
+    let asked = c in
+    let start = asked in
+    (ready off start.args.level start.args.soft.now start.args.limit (sym asked.asked.ensures ∙ c.enum_told-1.given.1)).0
+
+pub returns-in-Done : goal.returns-in-Done
+returns-in-Done c =
+    let told = c in
+    let asked = told in
+    let start = asked in
+    c.search_allowed.ensures ∙ sym (settled off start.args.level start.args.soft.now start.args.limit refused_search _ Done (sym told.enum_told-1.given.1 ∙ asked.asked.ensures))
+
+pub returns-in-Refused : goal.returns-in-Refused
+returns-in-Refused c =
+    let asked = c in
+    let start = asked in
+    c.refused.ensures ∙ sym (settled off start.args.level start.args.soft.now start.args.limit refused_search _ _ (sym c.n-1.given.1 ∙ asked.asked.ensures))

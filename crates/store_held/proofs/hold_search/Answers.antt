@@ -1,0 +1,64 @@
+-- `store_held::hold_search` meets its contract: the questions' answer settles which case it is, then the search's outcome. Assumes nothing.
+use mathlib.Core.Path.{◌≡◌, sym, ap, ◌∙◌}
+use Prim.Native.Nat.{◌<◌}
+use mir.Syntax.{w16}
+use mir.Facts.{to_z-of_z}
+use Rattle.questions.specs.declared.Outcome.TheVariants.{Done, Refused}
+use Rattle.searches.specs.Searches.{Allowed, as_answer}
+use Rattle.searches.proofs.Outcomes.{found_answer, answered_as}
+use Rattle.store_held.specs.Names.{ask_hold}
+use Rattle.store_held.proofs.Calls.{hold_ready, hold_refused, hold_found, hold_spent, BegunAndGone, begun_is_allowed, begun_is_below, begun_goes_on}
+use borrow.Author.Rules.{rules}
+use Rattle.store_held.proofs.hold_search.Goals as goal
+
+abbrev start : goal.In-Done → goal.Start
+start told = told.before
+
+done : (told : goal.In-Done) → (let a = (start told).args in Done ≡ ask_hold a.name a.soft.now a.level a.limit Refused Done)
+done told = sym told.enum_told-1.given.1 ∙ told.asked_to_hold.ensures
+
+allowed : (told : goal.In-Done) → (let a = (start told).args in (a.name < 4) × Allowed a.level a.soft.now a.limit)
+allowed told = let a = (start told).args in hold_ready a.name a.soft.now a.level a.limit (done told)
+
+gone : (went : goal.After-go_on-gone) → (let a = (start went.before).args in BegunAndGone a.soft.now a.level a.limit went.go_on-gone.result)
+gone went = let a = (start went.before).args in begun_goes_on a.soft.now a.level a.limit _ went.begin.ensures (allowed went.before).1 _ went.go_on-gone.ensures
+
+pub begin-requires : goal.begin-requires
+begin-requires c = (allowed c).1.full
+
+pub go_on-gone-requires : goal.go_on-gone-requires
+go_on-gone-requires c =
+    let a = (start c.before).args in
+    let may = (allowed c.before).1 in
+    let none : c.begin.result.limit < a.limit = begun_is_below a.soft.now a.level a.limit _ c.begin.ensures may.some in record {
+        limit_lt_limit = (none, may.most);
+        ready = begun_is_allowed a.soft.now a.level a.limit _ c.begin.ensures may;
+      }
+
+pub offset_bounds-store-name : goal.offset_bounds-store-name
+offset_bounds-store-name c = let low = (allowed c.before).0 in search rules
+
+pub bounds-store-name : goal.bounds-store-name
+bounds-store-name c = (allowed c.before).0
+
+pub returns-in-Refused : goal.returns-in-Refused
+returns-in-Refused c =
+    let asked = c in
+    let a = asked.args in
+    hold_refused a.name a.soft.now a.level a.limit _ _ _ (sym c.n-1.given.1 ∙ asked.asked_to_hold.ensures)
+
+pub returns-in-Found : goal.returns-in-Found
+returns-in-Found c =
+    let went = c in
+    let a = (start went.before).args in
+    let told = c.found-1.given in
+    hold_found a.name a.soft.now a.level a.limit _ (done went.before) _ _ _
+    (found_answer _ _ _ _ told.1 (to_z-of_z {w = w16} (record { sfits = c.known_told-in-Found-1.given.1.1.0.1 })) ∙ answered_as _ (gone went).found)
+
+pub returns-in-Spent : goal.returns-in-Spent
+returns-in-Spent c =
+    let went = c in
+    let a = (start went.before).args in
+    let spent = c.enum_told-in-Spent-1.given.1 in
+    let g = gone went in
+    hold_spent a.name a.soft.now a.level a.limit _ (done went.before) went.go_on-gone.result.held (g.stopped-1 spent) g.column g.level_is g.summed (ap as_answer (sym spent) ∙ answered_as _ g.found-1)

@@ -1,0 +1,72 @@
+-- `store_held::take_up` meets its contract: the questions' answer settles which case it is, then the test of the state, then the search's outcome. Assumes nothing.
+use mathlib.Core.Bool.{true≢false}
+use mathlib.Core.Path.{◌≡◌, sym, ◌∙◌}
+use Prim.Native.Nat.{◌+◌, ◌≤◌, ◌<◌}
+use native.Mathlib.Omega.{arith}
+use mir.Syntax.{w16}
+use mir.Facts.{to_z-of_z}
+use borrow.Author.Tests.{not-true, not-false}
+use Rattle.questions.specs.declared.Outcome.TheVariants.{Done, Refused}
+use Rattle.searches.proofs.Outcomes.{found_answer}
+use Rattle.store_held.specs.Names.{ask_more}
+use Rattle.store_held.specs.Calls.{entry}
+use Rattle.store_held.proofs.Calls.{more_ready, take_16, take_refused, take_unready, take_found, take_spent}
+use borrow.Author.Rules.{rules}
+use Rattle.store_held.proofs.take_up.Goals as goal
+
+abbrev start : goal.In-Done → goal.Start
+start told = told.before
+
+done : (told : goal.In-Done) → (let a = (start told).args in Done ≡ ask_more (entry a.t1 a.name).limit a.limit Refused Done)
+done told = sym told.enum_told-1.given.1 ∙ told.asked_for_more.ensures
+
+bounds : (told : goal.In-Done) → (let a = (start told).args in (1 ≤ (entry a.t1 a.name).limit) × (1 ≤ a.limit) × ((entry a.t1 a.name).limit + a.limit ≤ 2000))
+bounds told = more_ready _ _ (done told)
+
+low : (told : goal.In-Done) → (start told).args.name < 4
+low told = told.if-name-ge4.false
+
+pub returns-then-name-ge4 : goal.returns-then-name-ge4
+returns-then-name-ge4 c = take_16 _ _ _ c.if-name-ge4.true
+
+pub is_ready-requires : goal.is_ready-requires
+is_ready-requires c = omega (arith, (bounds c).2)
+
+pub returns-then-not-is_ready : goal.returns-then-not-is_ready
+returns-then-not-is_ready c =
+    let told = c in
+    take_unready _ _ _ (low told) (done told) (λ r. true≢false (sym (c.is_ready.ensures.1 r) ∙ not-true _ c.if-not-is_ready.true))
+
+pub overflow_add-summed : goal.overflow_add-summed
+overflow_add-summed c = let within = (bounds c.before).2 in record { fits = omega (arith, within) }
+
+pub go_on-gone-requires : goal.go_on-gone-requires
+go_on-gone-requires c = record {
+        limit_lt_limit = (omega (arith, (bounds c.before).1), (bounds c.before).2);
+        ready = c.is_ready.ensures.0 (not-false _ c.if-not-is_ready.false);
+      }
+
+pub offset_bounds-store-i-in-Spent : goal.offset_bounds-store-i-in-Spent
+offset_bounds-store-i-in-Spent c = let in_range = low c.before in search rules
+
+pub bounds-store-i-in-Spent : goal.bounds-store-i-in-Spent
+bounds-store-i-in-Spent c = low c.before
+
+pub returns-in-Refused : goal.returns-in-Refused
+returns-in-Refused c =
+    let asked = c in
+    take_refused _ _ _ asked.if-name-ge4.false _ _ (sym c.n-1.given.1 ∙ asked.asked_for_more.ensures)
+
+pub returns-in-Found : goal.returns-in-Found
+returns-in-Found c =
+    let went = c in
+    let told = went in
+    let found = c.found-1.given in
+    take_found _ _ _ (low told) (done told) went.go_on-gone.result went.go_on-gone.ensures _ _ _
+    (found_answer _ _ _ _ found.1 (to_z-of_z {w = w16} (record { sfits = c.known_told-in-Found-1.given.1.1.0.1 }))) c.nothing.result c.nothing.ensures
+
+pub returns-in-Spent : goal.returns-in-Spent
+returns-in-Spent c =
+    let went = c in
+    let told = went in
+    take_spent _ _ _ (low told) (done told) went.go_on-gone.result went.go_on-gone.ensures c.enum_told-in-Spent-1.given.1

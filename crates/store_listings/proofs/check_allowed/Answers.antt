@@ -1,0 +1,36 @@
+-- `store_listings::check_allowed` meets its contract: the tables are those of the search that the flag names, and the verdict is told. Assumes nothing.
+use mathlib.Core.Path.{◌≡◌, refl, sym, ap, ◌∙◌}
+use Rattle.paths.specs.Listings.{judged}
+use Rattle.search.specs.Outcomes.{search_of}
+use Rattle.search.proofs.ShortSearch.{column_searchable}
+use Rattle.checker.specs.Lines.{listing_of}
+use Rattle.checker.specs.Judging.{code_verdict}
+use Rattle.store_listings.specs.Listings.{named_trellis, as_answer}
+use Rattle.store_listings.proofs.Questions.{answered_as}
+use borrow.Author.Rules.{rules}
+use Rattle.store_listings.proofs.check_allowed.Goals as goal
+
+abbrev start : goal.After-judge_column-verdict → goal.Start
+start said = said.before
+
+-- what the checker says
+verdict_is : (said : goal.After-judge_column-verdict)
+    → said.judge_column-verdict.result ≡ code_verdict (judged (named_trellis (search_of (start said).args.in-supercodes) (start said).args.level (start said).args.soft.now) (listing_of 30 (start said).args.lengths.now (start said).args.bits.now))
+verdict_is said =
+    said.judge_column-verdict.ensures.value (search_of (start said).args.in-supercodes) (start said).args.level (start said).requires.level said.tables_of-tables.ensures
+
+pub judge_column-verdict-requires : goal.judge_column-verdict-requires
+judge_column-verdict-requires c =
+    let start = c in
+    let tables = c.tables_of-tables.ensures in
+    let allowed = start.requires in record {
+        lines = record { few = allowed.most; both = sym allowed.both };
+        searchable30 = column_searchable (search_of start.args.in-supercodes) start.args.level allowed.level start.args.soft.now _ _ _ allowed.full allowed.range tables;
+        room = record { sums = refl; lens = refl; bits = refl };
+      }
+
+pub returns-in-Accepted : goal.returns-in-Accepted
+returns-in-Accepted c = ap as_answer (sym c.enum_told-1.given.1) ∙ answered_as _ (verdict_is c.before)
+
+pub returns-in-Wrong : goal.returns-in-Wrong
+returns-in-Wrong c = ap as_answer (sym c.verdict-1.given.1) ∙ answered_as _ (verdict_is c.before)

@@ -1,0 +1,9 @@
+-- `store_pages::ask_page_list` meets its contract: what asking by either search gives. Assumes nothing.
+use mathlib.Core.Bool.{true}
+use borrow.Author.Rules.{rules}
+use Rattle.trellis.specs.Demand.{supercode}
+use Rattle.store_pages.proofs.Asked.{as_handed_on}
+use Rattle.store_pages.proofs.ask_page_list.Goals as goal
+
+pub returns : goal.returns
+returns c = let start = c.before in as_handed_on true start.args.threshold start.ranges.threshold supercode c.ask_either.ensures

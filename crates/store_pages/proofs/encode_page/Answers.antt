@@ -1,0 +1,19 @@
+-- `store_pages::encode_page` meets its contract: each return rewrites with the tests that led there. Assumes nothing.
+use borrow.Author.Tests.{eq-eqb, ne_eqb}
+use Rattle.questions.proofs.Filled.{refused, done}
+use borrow.Author.Rules.{rules}
+use Rattle.store_pages.proofs.encode_page.Goals as goal
+
+pub returns-then-data-ne150 : goal.returns-then-data-ne150
+returns-then-data-ne150 c = refused (simp (ne_eqb _ _ c.if-data-ne150.true))
+
+pub returns-then-out-ne252 : goal.returns-then-out-ne252
+returns-then-out-ne252 c = refused (simp (eq-eqb _ _ c.if-data-ne150.false, ne_eqb _ _ c.if-out-ne252.true))
+
+pub encode_page-requires : goal.encode_page-requires
+encode_page-requires c = (c.if-data-ne150.false, c.if-out-ne252.false)
+
+pub returns : goal.returns
+returns c =
+    let asked = c in
+    done (simp (eq-eqb _ _ asked.if-data-ne150.false, eq-eqb _ _ asked.if-out-ne252.false)) c.encode_page.ensures

@@ -1,0 +1,38 @@
+-- `store_searches::search_either` meets its contract: the questions' answer settles which case it is. Assumes nothing.
+use mathlib.Core.Path.{sym, ap, ◌∙◌}
+use mir.Syntax.{w64}
+use mir.Val.{to_z, of_z}
+use borrow.Author.Rules.{rules}
+use Rattle.trellis.specs.TwoWords.{Choice}
+use Rattle.search.specs.Outcomes.{search_of}
+use Rattle.questions.specs.declared.Outcome.TheVariants.{Done}
+use Rattle.list_of_two.specs.Ways.{chosen}
+use Rattle.list_of_two.proofs.Thresholds.{handed_on}
+use Rattle.searches.specs.Searches.{search_answer}
+use Rattle.searches.specs.declared.SearchAnswer.TheVariants.{Refused as Unanswered}
+use Rattle.searches.proofs.Questions.{ready, settled}
+use Rattle.store_searches.proofs.search_either.Goals as goal
+
+pub search_allowed-requires : goal.search_allowed-requires
+search_allowed-requires c =
+    let asked = c in
+    let start = asked in
+    ready (chosen start.args.second (to_z w64 (of_z w64 start.args.threshold))) start.args.level start.args.soft.now start.args.limit (sym asked.asked.ensures ∙ c.enum_told-1.given.1)
+
+pub returns-in-Done : goal.returns-in-Done
+returns-in-Done c =
+    let told = c in
+    let asked = told in
+    let start = asked in
+    let handed = chosen start.args.second (to_z w64 (of_z w64 start.args.threshold)) in
+    c.search_allowed.ensures
+    ∙ sym (settled handed start.args.level start.args.soft.now start.args.limit Unanswered _ Done (sym told.enum_told-1.given.1 ∙ asked.asked.ensures))
+    ∙ ap (λ (choice : Choice). search_answer choice (search_of start.args.in-supercodes) start.args.level start.args.soft.now start.args.limit) (handed_on start.args.second start.args.threshold start.ranges.threshold)
+
+pub returns-in-Refused : goal.returns-in-Refused
+returns-in-Refused c =
+    let asked = c in
+    let start = asked in
+    let handed = chosen start.args.second (to_z w64 (of_z w64 start.args.threshold)) in
+    sym (settled handed start.args.level start.args.soft.now start.args.limit Unanswered _ _ (sym c.n-1.given.1 ∙ asked.asked.ensures))
+    ∙ ap (λ (choice : Choice). search_answer choice (search_of start.args.in-supercodes) start.args.level start.args.soft.now start.args.limit) (handed_on start.args.second start.args.threshold start.ranges.threshold)

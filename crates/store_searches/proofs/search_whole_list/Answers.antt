@@ -1,0 +1,15 @@
+-- `store_searches::search_whole_list` meets its contract: what either search answers. Assumes nothing.
+use mathlib.Core.Bool.{true}
+use mathlib.Core.Path.{ap, ◌∙◌}
+use borrow.Author.Rules.{rules}
+use Rattle.trellis.specs.Demand.{whole}
+use Rattle.trellis.specs.TwoWords.{Choice}
+use Rattle.list_of_two.proofs.Thresholds.{handed_on}
+use Rattle.searches.specs.Searches.{search_answer}
+use Rattle.searches.proofs.Outcomes.{answered}
+use Rattle.store_searches.proofs.search_whole_list.Goals as goal
+
+pub returns : goal.returns
+returns c =
+    let start = c in
+    answered (c.search_either.ensures ∙ ap (λ (choice : Choice). search_answer choice whole start.args.level start.args.soft.now start.args.limit) (handed_on true start.args.threshold start.ranges.threshold))

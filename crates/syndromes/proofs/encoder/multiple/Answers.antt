@@ -1,0 +1,24 @@
+use mathlib.Core.Path.{◌≡◌, refl}
+use Prim.Native.Nat.{ℕ, ◌-◌, ◌/◌, ◌%◌, ◌^◌, ◌≤◌}
+use lib.ListN.{get_or}
+use Rattle.poly.specs.Polynomial.{add, scale}
+use Rattle.reedsolomon.specs.Sums.{sum}
+use Rattle.syndromes.specs.Packed.{multiple_in}
+use Rattle.syndromes.proofs.Multiples.{one_digit_more}
+use native.Mathlib.Omega.{arith}
+use borrow.Author.Rules.{rules}
+use Rattle.syndromes.proofs.encoder.multiple.Goals as goal
+
+pub loop-k-init : goal.loop-k-init
+unfolding sum
+loop-k-init c = (omega arith, refl)
+
+pub loop-k-preserved : goal.loop-k-preserved
+loop-k-preserved c =
+    let s = c.args in
+    let l = c.loop-k in
+    (omega arith, one_digit_more (λ (j : ℕ). get_or s.ms.now j 0) l.k s.f _ _ l.invariant.1 c.pick-r.ensures)
+
+pub returns : goal.returns
+unfolding multiple_in
+returns c = let e : c.loop-k.k ≡ 6 = omega arith in rw e at c.loop-k.invariant.1

@@ -1,0 +1,55 @@
+use mathlib.Core.Path.{◌≡◌}
+use Prim.Native.Nat.{◌-◌, ◌≤◌}
+use lib.ListN.{length, get_or}
+use lib.Pow.{pow_pos}
+use Rattle.reedsolomon.proofs.ShortRows.{row_roots_bounded}
+use Rattle.syndromes.specs.Packed.{joined, number_of, Full}
+use Rattle.syndromes.proofs.Packed.{no_symbol_more}
+use Rattle.syndromes.proofs.Multiples.{generator_in_front, product_in_front}
+use Rattle.syndromes.proofs.Division.{DividedTo, no_data, one_symbol_more, remainder_of_symbols}
+use native.Mathlib.Omega.{arith}
+use borrow.Author.Rules.{rules}
+use Rattle.syndromes.proofs.encoder.remainder.Goals as goal
+
+pub loop-k-init : goal.loop-k-init
+unfolding joined
+loop-k-init c =
+    let s = c.args in
+    let g = generator_in_front _ _ _ _ _ _ c.multiples-low.ensures c.multiples-middle.ensures c.multiples-high.ensures s.t c.generator-g.ensures.0 in
+    (omega arith, record { low = pow_pos 60; middle = pow_pos 60; high = pow_pos 60 }, no_data s.t _ g s.«data».now)
+
+pub register_step-w-requires : goal.register_step-w-requires
+register_step-w-requires c =
+    let l = c in
+    let made = l in
+    (l.loop-k.invariant.1, made.multiples-low.ensures.words, made.multiples-middle.ensures.words, made.multiples-high.ensures.words)
+
+pub loop-k-preserved : goal.loop-k-preserved
+loop-k-preserved c =
+    let l = c.loop-k in
+    let made = c in
+    let s = made in
+    let low = made.multiples-low.ensures in
+    let middle = made.multiples-middle.ensures in
+    let high = made.multiples-high.ensures in
+    let g = generator_in_front _ _ _ _ _ _ low middle high s.args.t made.generator-g.ensures.0 in
+    let full = c.register_step-w.ensures.1 in
+    let w = c.register_step-w.result in (
+      omega arith,
+      full,
+      one_symbol_more s.args.t _ g s.args.«data».now (row_roots_bounded _ s.requires.0) _ (product_in_front _ _ _ _ _ _ low middle high) l.k (number_of l.w) (number_of w) (s.requires.1 l.k)
+          (λ i u. no_symbol_more w.low-1 w.middle-1 w.high-1 i full.low-1 full.middle-1 full.high-1 u) l.invariant.2 c.register_step-w.ensures.0,
+    )
+
+pub symbols-requires : goal.symbols-requires
+symbols-requires c = (c.loop-k.invariant.1, row_roots_bounded _ c.requires.0)
+
+pub returns : goal.returns
+returns c =
+    let l = c.loop-k in
+    let made = c in
+    let s = made.args in
+    let d = s.«data».now in
+    let g = generator_in_front _ _ _ _ _ _ made.multiples-low.ensures made.multiples-middle.ensures made.multiples-high.ensures s.t made.generator-g.ensures.0 in
+    let e : l.k ≡ length d = omega arith in
+    remainder_of_symbols s.t _ g d l.k (number_of l.w) _ e l.invariant.2 c.symbols.ensures
