@@ -144,12 +144,14 @@ def main():
         taken, aliases = imports(text, crates)
         antt = path.endswith(".antt")
         names = {}
+        # modules of the repository that a name is written whole behind
+        modules = {m.group(2) for m in re.finditer(r"Rattle\.(\w+)\.(?:[\w+]+\.)*([\w+]+)(?=\." + WORD + ")", text) if m.group(1) in crates}
 
-        def new_name(tok, before, path=path, taken=taken, aliases=aliases, names=names, antt=antt):
+        def new_name(tok, before, path=path, taken=taken, aliases=aliases, modules=modules, antt=antt):
             """The new spelling of a token, whose text before it (a dotted prefix) is given."""
             if tok in taken:
                 return tok
-            if before and before not in aliases:
+            if before and before not in aliases and before not in modules:
                 return table[tok] if tok in fields_and_own and tok in table and before_is_value(before) else tok
             if tok in table:
                 return table[tok]

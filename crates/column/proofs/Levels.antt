@@ -153,7 +153,7 @@ module _ (S : Shape) (ok : Sound S) where
 
   highest_multiple : (s : ℕ → ℕ) (i k : ℕ) → k + i ≤ levels S → Multiple (generator S i) (highest S s k)
   unfolding highest
-  highest_multiple s i zero h = (0, Rattle.poly.proofs.Product.product-zero-l (generator S i))
+  highest_multiple s i zero h = (0, Rattle.poly.proofs.Product.product_zero_l (generator S i))
   highest_multiple s i (suc k) h =
       multiple_sum (generator S i) (highest S s k) (level_word S (top k) (s (top k))) (highest_multiple s i k (omega arith))
       (generator_divides S i (top k - i) (level_word S (top k) (s (top k)))

@@ -69,7 +69,7 @@ module _ (S : Shape) (ok : Sound S) where
       let wide : S.symbol ≤ S.symbol * (levels S - i) = subst (λ (t : ℕ). t ≤ S.symbol * (levels S - i)) (Nat.mul-one S.symbol) (Nat.mul-le-mul_left S.symbol one) in
       let room : S.symbol * (levels S - i) ≤ S.bits = Nat.le_trans (Nat.mul-le-mul_left S.symbol (Nat.sub-le (levels S) i)) ok.room in
       let fits : degree S i + S.symbol ≤ S.bits = omega arith in
-      Nat.lt_of_lt_of_le (Rattle.column.proofs.Levels.level-word-zeros S ok i s h hs) (pow_mono fits)
+      Nat.lt_of_lt_of_le (Rattle.column.proofs.Levels.level_word_zeros S ok i s h hs) (pow_mono fits)
 
   -- the sum from level i on is that of the next level and one word more
   sum_from_next : (i : ℕ) (s : List ℕ) → i < levels S → written_sum S i s ≡ add (written_sum S (suc i) s) (level_word S i (get_or s i 0))

@@ -97,7 +97,7 @@ module _ (m g : ℕ) (t : Primitive m g) where
   powers_distinct i j hi hj e =
       ⊎_elim (λ l. absurd (later i j l hj e))
       (λ l. ⊎_elim (λ q. sym q) (λ q. absurd (later j i q hi (sym e))) (Nat.eq-or-lt_of_le l))
-      (Rattle.poly.proofs.Sum.lt-or-le i j)
+      (Rattle.poly.proofs.Sum.lt_or_le i j)
     where
       later : (i j : ℕ) → i < j → j < units → power m g α i ≡ power m g α j → ⊥
       later i j l h e =

@@ -3,6 +3,10 @@ use Rattle.dump.specs.Check.{weighted}
 use Rattle.dump.proofs.Check.{weighted_more}
 use Rattle.blocks.proofs.check_of.Goals as goal
 
+pub loop-k-init : goal.loop-k-init
+unfolding weighted
+loop-k-init c = search rules
+
 pub overflow_mul-term : goal.overflow_mul-term
 overflow_mul-term c =
     let at_loop = c in

@@ -5,6 +5,10 @@ use Rattle.dump.specs.Parts.{fixed_from}
 use Rattle.dump.proofs.AllBelow.{all_more, all_not}
 use Rattle.blocks.proofs.fixed_from.Goals as goal
 
+pub loop-k-init : goal.loop-k-init
+unfolding all_below
+loop-k-init c = search rules
+
 pub returns-then-block-at : goal.returns-then-block-at
 unfolding fixed_from
 returns-then-block-at c =

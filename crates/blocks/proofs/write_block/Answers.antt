@@ -7,6 +7,10 @@ use Rattle.dump.proofs.Listed.{filled_more}
 use Rattle.dump.proofs.LastTwo.{last_two_set}
 use Rattle.blocks.proofs.write_block.Goals as goal
 
+pub loop-k-init : goal.loop-k-init
+unfolding listed
+loop-k-init c = search rules
+
 pub loop-k-preserved : goal.loop-k-preserved
 loop-k-preserved c =
     let at_loop = c in

@@ -20,12 +20,12 @@ overflow_add-result c =
     let p = c.requires in
     record {
       fits =
-          systematic_fits a.k a.d a.symbol c.remainder.result p.0 p.1.0
-          (subst (λ (t : ℕ). t < 2 ^ a.d) (sym c.remainder.ensures) (remainder_lt a.d a.g p.1.1 _));
+          systematic_fits a.k a.d a.symbol c.remainder.result p.k_bound p.symbol_bound
+          (subst (λ (t : ℕ). t < 2 ^ a.d) (sym c.remainder.ensures) (remainder_lt a.d a.g p.degree _));
     }
 
 pub returns : goal.returns
 returns c =
     let a = c.args in
     let p = c.requires in
-    systematic_is a.k a.d a.g a.symbol c.remainder.result p.0 p.1.0 c.remainder.ensures
+    systematic_is a.k a.d a.g a.symbol c.remainder.result p.k_bound p.symbol_bound c.remainder.ensures

@@ -14,9 +14,9 @@ use Rattle.list_of_two.proofs.search_by.Goals as goal
 pub unsearched_word-requires : goal.unsearched_word-requires
 unsearched_word-requires c =
     let pre = c.requires in
-    let some = pre.1.1.0 in record {
-        soft_len = pre.1.0.softs;
-        by_index = pre.1.0.soft_range;
+    let some = pre.by_index in record {
+        soft_len = pre.searchable30.softs;
+        by_index = pre.searchable30.soft_range;
         by_index_2 = (some.0, some.1, λ with_list. (some.2 with_list).0);
       }
 

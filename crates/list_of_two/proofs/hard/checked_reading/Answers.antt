@@ -26,8 +26,8 @@ overflow_mul-read c =
     let l = c in
     let pre = l.requires in
     let inside : l.loop-k.k < 30 = c.loop-k-test.true in
-    let some = pre.1.1 in
-    record { fits = entry_times_bit_fits some.0 some.1 _ some.2 l.loop-k.k _ inside (omega (arith, pre.1.0 l.loop-k.k inside)) }
+    let some = pre.by_index_2 in
+    record { fits = entry_times_bit_fits some.0 some.1 _ some.2 l.loop-k.k _ inside (omega (arith, pre.by_index l.loop-k.k inside)) }
 
 pub loop-k-preserved : goal.loop-k-preserved
 loop-k-preserved c =

@@ -47,4 +47,4 @@ returns c =
     let v = c in
     let pre = v.requires in
     let all : v.loop-k.k ≡ 30 = omega (arith, v.loop-k.invariant.0, c.loop-k-test.false) in
-    λ vs of. read_all _ _ vs of (pre.1.0 0 (omega arith)) pre.1.1 _ _ (subst (λ (k : ℕ). ReadTo vs v.args.soft.now k (to_z w16 v.loop-k.sum) (to_z w16 v.loop-k.low)) all (v.loop-k.invariant.2 vs of))
+    λ vs of. read_all _ _ vs of (pre.by_index 0 (omega arith)) pre.by_index_2 _ _ (subst (λ (k : ℕ). ReadTo vs v.args.soft.now k (to_z w16 v.loop-k.sum) (to_z w16 v.loop-k.low)) all (v.loop-k.invariant.2 vs of))
