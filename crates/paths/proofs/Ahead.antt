@@ -69,6 +69,7 @@ module _ (before : Path → Path → Bool) (order : Order before) where
   -- and none of those stands after it
   last_placed_last : (k : ℕ) (p q : Path) → Prefix q p → k < length q → (q ≡ last_placed before k p) ⊎ (before q (last_placed before k p) ≡ true)
   unfolding last_placed
+  last_placed_last k [] q h l = elim h [ ]
   last_placed_last k (b ∷ p) q h l = go (ltb k (length p)) refl h (λ i. last_placed_last k p q i l)
     where
       go : (t : Bool) → ltb k (length p) ≡ t → (q ≡ b ∷ p) ⊎ Prefix q p → (Prefix q p → (q ≡ last_placed before k p) ⊎ (before q (last_placed before k p) ≡ true))

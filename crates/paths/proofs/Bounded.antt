@@ -308,6 +308,7 @@ module _ (t : Tree) (sound : Sound t) (places : ℕ) where
 
   module _ (continued : Continued t) (some : 0 < places) where
     some_member : {A : Type 0} (x : A) (l : List A) → Mem x l → 0 < length l
+    some_member {A = A} x [] m = elim m [ ]
     some_member x (y ∷ l) m = omega arith
 
     some_left : {A : Type 0} (k : ℕ) (l : List A) → 0 < k → 0 < length l → 0 < length (take k l)

@@ -43,6 +43,8 @@ pub record Invariant (t : Tree) (taken stack : List Path) : Type 0 where
 
 module _ (t : Tree) (sound : Sound t) where
   pub prefix_exists : (r w : Path) → Prefix r w → Exists t w → Exists t r
+  prefix_exists r [] x3 x = elim x3 [ ]
+  prefix_exists r (b ∷ []) (inr h) x = elim h [ ]
   prefix_exists r (b ∷ []) (inl e) x = subst⁻¹ (λ (p : Path). Exists t p) e x
   prefix_exists r (b ∷ c ∷ w) (inl e) x = subst⁻¹ (λ (p : Path). Exists t p) e x
   prefix_exists r (b ∷ c ∷ w) (inr h) x = prefix_exists r (c ∷ w) h (record { some_bit = omega arith; in_tree = sound.parents b c w x.in_tree })

@@ -155,6 +155,7 @@ module _ (t : Tree) where
 
   answer_among : (lines : List Path) (p : Path) → Mem p lines → is_full t p ≡ true → answered t lines ≡ true
   unfolding answered
+  answer_among [] p x'' f = elim x'' [ ]
   answer_among (q ∷ lines) p (inl e) f = either_or (is_full t q) (answered t lines) (inl (subst (λ (r : Path). is_full t r ≡ true) e f))
   answer_among (q ∷ lines) p (inr m) f = either_or (is_full t q) (answered t lines) (inr (answer_among lines p m f))
 
@@ -273,6 +274,7 @@ of_reverse p [] m = m
 of_reverse p (q ∷ paths) m = go (of_reverse p paths) (of_append p (reverse paths) (q ∷ []) (subst (λ (l : List Path). Mem p l) (reverse-cons q paths) m))
   where
     go : (Mem p (reverse paths) → Mem p paths) → Mem p (reverse paths) ⊎ Mem p (q ∷ []) → Mem p (q ∷ paths)
+    go ih (inr (inr x3)) = elim x3 [ ]
     go ih (inl h) = inr (ih h)
     go ih (inr (inl e)) = inl e
 

@@ -12,10 +12,12 @@ use Rattle.paths.specs.Lists.{Mem, NoRepeats, filter}
 use Rattle.paths.proofs.Booleans.{not_both}
 
 pub in_map : {A B : Type 0} (f : A → B) (x : A) (l : List A) → Mem x l → Mem (f x) (map f l)
+in_map {A = A} {B = B} f x [] x'' = elim x'' [ ]
 in_map f x (y ∷ l) (inl e) = inl (ap f e)
 in_map f x (y ∷ l) (inr m) = inr (in_map f x l m)
 
 pub of_map : {A B : Type 0} (f : A → B) (y : B) (l : List A) → Mem y (map f l) → (x : A) × (y ≡ f x) × Mem x l
+of_map {A = A} {B = B} f y [] x' = elim x' [ ]
 of_map f y (x ∷ l) (inl e) = (x, e, inl refl)
 of_map f y (x ∷ l) (inr m) = let r = of_map f y l m in (r.0, r.1, inr r.2)
 
@@ -40,6 +42,7 @@ filter_map test f (x ∷ l) = go (test (f x)) (filter_map test f l)
 
 module _ {A : Type 0} where
   pub in_append : (x : A) (a b : List A) → Mem x a ⊎ Mem x b → Mem x (a ++ b)
+  in_append x [] b (inl x3) = elim x3 [ ]
   in_append x [] b (inr m) = m
   in_append x (y ∷ a) b (inl (inl e)) = inl e
   in_append x (y ∷ a) b (inl (inr m)) = inr (in_append x a b (inl m))
@@ -60,6 +63,7 @@ module _ {A : Type 0} where
     without : (r : List A) → suc (length r) ≡ length l → ((z : A) → Mem z l → (z ≡ x) ⊎ Mem z r) → Without x l
 
   take_out : (x : A) (l : List A) → Mem x l → Without x l
+  take_out x [] x'' = elim x'' [ ]
   take_out x (y ∷ l) (inl e) = without l refl (λ z m. ⊎_elim (λ k. inl (k ∙ sym e)) (λ k. inr k) m)
   take_out x (y ∷ l) (inr m) = more (take_out x l m)
     where
@@ -83,6 +87,7 @@ module _ {A : Type 0} where
 
   pub of_filter : (test : A → Bool) (l : List A) (z : A) → Mem z (filter test l) → Mem z l × (test z ≡ true)
   unfolding filter
+  of_filter test [] z m = elim m [ ]
   of_filter test (x ∷ xs) z m = go (test x) refl m (of_filter test xs z)
     where
       go : (b : Bool) → test x ≡ b → Mem z (cond b (x ∷ filter test xs) (filter test xs)) → (Mem z (filter test xs) → Mem z xs × (test z ≡ true)) → Mem z (x ∷ xs) × (test z ≡ true)
@@ -92,6 +97,7 @@ module _ {A : Type 0} where
 
   pub in_filter : (test : A → Bool) (l : List A) (z : A) → Mem z l → test z ≡ true → Mem z (filter test l)
   unfolding filter
+  in_filter test [] z m h = elim m [ ]
   in_filter test (x ∷ xs) z m h = go (test x) refl m (λ k. in_filter test xs z k h)
     where
       go : (b : Bool) → test x ≡ b → (z ≡ x) ⊎ Mem z xs → (Mem z xs → Mem z (filter test xs)) → Mem z (cond b (x ∷ filter test xs) (filter test xs))
@@ -137,9 +143,11 @@ module _ {A : Type 0} where
 
   -- of a list with a member, the member of least value
   pub least : (value : A → ℕ) (x : A) (l : List A) → Mem x l → (y : A) × Mem y l × ((z : A) → Mem z l → value y ≤ value z)
+  least value x [] m = elim m [ ]
   least value x (a ∷ []) m = (a, inl refl, λ z k. only z k)
     where
       only : (z : A) → (z ≡ a) ⊎ ⊥ → value a ≤ value z
+      only z (inr x6) = elim x6 [ ]
       only z (inl e) = omega (arith, ap value e)
   least value x (a ∷ b ∷ l) m = go (least value b (b ∷ l) (inl refl))
     where

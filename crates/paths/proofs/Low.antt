@@ -55,6 +55,7 @@ unfolding lowest_from
 lowest_from_is z [] = record { is_one = inl refl; none_below = none }
   where
     none : (x : ℤ) → Mem x (z ∷ []) → z ≤ℤ x
+    none x (inr x'') = elim x'' [ ]
     none x (inl e) = subst⁻¹ (λ (t : ℤ). z ≤ℤ t) e (≤ℤ_refl z)
 lowest_from_is z (x ∷ xs) = go (lowest_from_is (lower z x) xs) (lower_is z x)
   where
@@ -107,6 +108,7 @@ lowest_from_above z (x ∷ xs) some above = ap (λ (y : ℤ). lowest_from y xs) 
 
 prefix_in : (r w : Path) → Prefix r w → Mem r (prefixes w)
 unfolding prefixes
+prefix_in r [] x' = elim x' [ ]
 prefix_in r (b ∷ w) (inl e) = inl e
 prefix_in r (b ∷ w) (inr h) = inr (prefix_in r w h)
 
@@ -182,6 +184,7 @@ module _ (t : Tree) (taken : List Path) (w : Path) (led : Led t taken w) where
       ≤ℤ_antisym z (low_point t.sum w) (so.none_below (low_point t.sum w) (in_append (low_point t.sum w) sums (z₀ ∷ []) (inl lowest_of_taken.is_one))) (above (of_append z sums (z₀ ∷ []) so.is_one))
     where
       above : Mem z (map t.sum (w ∷ taken)) ⊎ Mem z (z₀ ∷ []) → low_point t.sum w ≤ℤ z
+      above (inr (inr x'')) = elim x'' [ ]
       above (inl m) = lowest_of_taken.none_below z m
       above (inr (inl e)) = subst⁻¹ (λ (x : ℤ). low_point t.sum w ≤ℤ x) e (≤ℤ_trans _ (t.sum w) z₀ (lowest_of_taken.none_below (t.sum w) (inl refl)) high)
 

@@ -25,6 +25,7 @@ in_extensions (suc n) p q h l =
 
 of_extensions : (n : ℕ) (p q : Path) → 0 < length p → Mem q (extensions n p) → Prefix p q × (length q ≤ length p + n)
 unfolding extensions
+of_extensions zero p q s (inr m) = elim m [ ]
 of_extensions zero p q s (inl e) = (subst⁻¹ (λ (x : Path). Prefix p x) e (prefix_self p s), omega (arith, ap length e))
 of_extensions (suc n) p q s (inl e) = (subst⁻¹ (λ (x : Path). Prefix p x) e (prefix_self p s), omega (arith, ap length e))
 of_extensions (suc n) p q s (inr m) =
@@ -67,6 +68,7 @@ in_paths (suc n) p s l = in_append p (extensions n (false ∷ [])) (extensions n
 
 pub of_paths : (n : ℕ) (p : Path) → Mem p (paths n) → (0 < length p) × (length p ≤ n)
 unfolding paths
+of_paths zero p m = elim m [ ]
 of_paths (suc n) p m =
     ⊎_elim (λ k. go false (of_extensions n (false ∷ []) p (omega arith) k)) (λ k. go true (of_extensions n (true ∷ []) p (omega arith) k))
     (of_append p (extensions n (false ∷ [])) (extensions n (true ∷ [])) m)

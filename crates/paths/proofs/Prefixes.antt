@@ -50,6 +50,7 @@ prefix_is p (b ∷ w) e = ⊎_elim (λ h. inl (same_equal p (b ∷ w) h)) (λ h.
 
 pub is_prefix : (p w : Path) → Prefix p w → prefix p w ≡ true
 unfolding prefix
+is_prefix p [] x' = elim x' [ ]
 is_prefix p (b ∷ w) (inl e) = either_or (same p (b ∷ w)) (prefix p w) (inl (equal_same p (b ∷ w) e))
 is_prefix p (b ∷ w) (inr h) = either_or (same p (b ∷ w)) (prefix p w) (inr (is_prefix p w h))
 
@@ -76,25 +77,30 @@ prefix_self [] h = absurd (omega arith)
 prefix_self (b ∷ p) h = inl refl
 
 pub prefix_some : (p w : Path) → Prefix p w → 0 < length p
+prefix_some p [] x' = elim x' [ ]
 prefix_some p (b ∷ w) (inl e) = omega (arith, ap length e)
 prefix_some p (b ∷ w) (inr h) = prefix_some p w h
 
 pub prefix_length : (p w : Path) → Prefix p w → length p ≤ length w
+prefix_length p [] x' = elim x' [ ]
 prefix_length p (b ∷ w) (inl e) = omega (arith, ap length e)
 prefix_length p (b ∷ w) (inr h) = omega (arith, prefix_length p w h)
 
 pub prefix_trans : (p q r : Path) → Prefix p q → Prefix q r → Prefix p r
+prefix_trans p q [] h x'' = elim x'' [ ]
 prefix_trans p q (b ∷ r) h (inl e) = subst (λ (x : Path). Prefix p x) e h
 prefix_trans p q (b ∷ r) h (inr k) = inr (prefix_trans p q r h k)
 
 -- of two prefixes of one path, one is a prefix of the other
 pub prefix_compare : (p q w : Path) → Prefix p w → Prefix q w → Prefix p q ⊎ Prefix q p
+prefix_compare p q [] x'' k = elim x'' [ ]
 prefix_compare p q (b ∷ w) (inl e) k = inr (subst⁻¹ (λ (x : Path). Prefix q x) e k)
 prefix_compare p q (b ∷ w) (inr h) (inl e) = inl (subst⁻¹ (λ (x : Path). Prefix p x) e (inr h))
 prefix_compare p q (b ∷ w) (inr h) (inr k) = prefix_compare p q w h k
 
 -- a prefix that is as long is the path itself
 pub prefix_whole : (p w : Path) → Prefix p w → length w ≤ length p → p ≡ w
+prefix_whole p [] x'' l = elim x'' [ ]
 prefix_whole p (b ∷ w) (inl e) l = e
 prefix_whole p (b ∷ w) (inr h) l = absurd (omega (arith, prefix_length p w h))
 
@@ -107,6 +113,7 @@ prefix_shorter p q w h k l = ⊎_elim (λ i. i) (λ i. again (prefix_whole q p i
 
 -- a prefix is the whole path, or the prefix one bit longer is a prefix too
 pub prefix_next : (p w : Path) → Prefix p w → (p ≡ w) ⊎ ((b : Bool) × Prefix (b ∷ p) w)
+prefix_next p [] x' = elim x' [ ]
 prefix_next p (c ∷ w) (inl e) = inl e
 prefix_next p (c ∷ w) (inr h) = go (prefix_next p w h)
   where

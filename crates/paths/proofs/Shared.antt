@@ -14,6 +14,7 @@ use Rattle.paths.proofs.Prefixes.{Prefix, prefix_is, is_prefix, prefix_some, pre
 -- a prefix of both is no longer
 pub shared_longest : (p w q : Path) → Prefix q p → Prefix q w → length q ≤ shared p w
 unfolding shared
+shared_longest [] w q h k = elim h [ ]
 shared_longest (b ∷ p) w q h k = go (prefix (b ∷ p) w) refl h (λ i. shared_longest p w q i k)
   where
     go : (t : Bool) → prefix (b ∷ p) w ≡ t → (q ≡ b ∷ p) ⊎ Prefix q p → (Prefix q p → length q ≤ shared p w) → length q ≤ cond t (suc (length p)) (shared p w)

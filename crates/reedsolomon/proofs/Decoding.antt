@@ -61,7 +61,7 @@ module _ {F : Type 0} {In : F → Type 0} {◌⊕◌ ◌⊗◌ : F → F → F} 
         quotient_gives_magnitude K same N X (λ i u. position_in K α N i) (λ i u. position_not_zero K N α ord i) (positions_are_distinct K N α ord)
         U k f.number g f.polynomial_in f.polynomial_monic f.polynomial_roots l h ul
         S (λ j. w j ⊕ c j) (λ j u. K.in_sum (w j) (c j) (hw j u) (hc j u))
-        (λ j u q. ap (λ (t : F). t ⊕ c j) (differences_are_locations j u q) ∙ K.Sum-self (c j))
+        (λ j u q. ap (λ (t : F). t ⊕ c j) (differences_are_locations j u q) ∙ K.sum_self (c j))
         (λ i u. f.syndromes i (le_trans u few) ∙ syndrome_of_difference K α N T w c hw hc code i (le_trans u few))
       where
         few : k ≤ T

@@ -16,7 +16,7 @@ use Rattle.reedsolomon.proofs.Counting.{one_more_nonzero, all_nonzero}
 module _ {F : Type 0} {In : F → Type 0} {◌⊕◌ ◌⊗◌ : F → F → F} {𝟘 𝟙 : F} {inv : F → F} (K : Field In ◌⊕◌ ◌⊗◌ 𝟘 𝟙 inv) where
   infixl 20 ◌⊕◌
   infixl 30 ◌⊗◌
-  open K use {sum_zero, Sum-self, mul_assoc, mul_comm, mul_one, mul_inv, in_zero, in_one, in_sum, in_mul, one_not_zero}
+  open K use {sum_zero, sum_self, mul_assoc, mul_comm, mul_one, mul_inv, in_zero, in_one, in_sum, in_mul, one_not_zero}
 
   abbrev combination_of : ℕ → (ℕ → F) → (ℕ → F) → ℕ → F
   combination_of k p M i = combination ◌⊕◌ ◌⊗◌ 𝟘 k p M i
@@ -119,7 +119,7 @@ module _ {F : Type 0} {In : F → Type 0} {◌⊕◌ ◌⊗◌ : F → F → F} 
             ∙ ap (λ (x : F). v i ⊕ x)
             (ap (λ (x : F). x ⊗ W i) et ∙ mul_assoc (v i) q (W i) ∙ ap (λ (x : F). v i ⊗ x) (mul_comm q (W i) ∙ s.unit)
             ∙ mul_one (v i) (subst In (sym (f.carried i below)) (combination_in k p M i)))
-            ∙ Sum-self (v i)
+            ∙ sum_self (v i)
 
     -- only the first k coefficients and n combinations of a kept row count, and its bound may rise
     pub kept_row_of_equals : (p v p' v' : ℕ → F) (q q' : F) (i b c : ℕ) → i < n → b ≤ c → ((j : ℕ) → j < k → p' j ≡ p j) → ((h : ℕ) → h < n → v' h ≡ v h)

@@ -19,7 +19,7 @@ use Rattle.reedsolomon.proofs.Reach.{close_codewords_are_equal}
 module _ {F : Type 0} {In : F → Type 0} {◌⊕◌ ◌⊗◌ : F → F → F} {𝟘 𝟙 : F} {inv : F → F} (K : Field In ◌⊕◌ ◌⊗◌ 𝟘 𝟙 inv) where
   infixl 20 ◌⊕◌
   infixl 30 ◌⊗◌
-  open K use {sum_comm, sum_zero, Sum-self, mul_one, in_zero, in_sum, in_mul}
+  open K use {sum_comm, sum_zero, sum_self, mul_one, in_zero, in_sum, in_mul}
 
   abbrev ◌^^◌ : F → ℕ → F
   a ^^ n = power ◌⊗◌ 𝟙 a n
@@ -150,7 +150,7 @@ module _ {F : Type 0} {In : F → Type 0} {◌⊕◌ ◌⊗◌ : F → F → F} 
       value_in_parts K k T w b hw
       ∙ ap₂ (λ (x y : F). x ⊗ b ^^ T ⊕ y) (value_of_equals K k w d b front)
       (value_of_equals K T (λ i. w (k + i)) r b back ∙ v.values b (gen.roots i l))
-      ∙ Sum-self (value_of k d b ⊗ b ^^ T)
+      ∙ sum_self (value_of k d b ⊗ b ^^ T)
 
   -- codewords that agree in all but the last T columns agree in these too
   pub data_determine_the_codeword : (same : (a b : F) → Dec (a ≡ b)) (α : F) (k T : ℕ) → OrderAtLeast In ◌⊗◌ 𝟘 𝟙 (k + T) α → (a b : ℕ → F)
@@ -160,4 +160,4 @@ module _ {F : Type 0} {In : F → Type 0} {◌⊕◌ ◌⊗◌ : F → F → F} 
       close_codewords_are_equal K same α (k + T) T ord a b ha hb ca cb
       (nonzeros_of_end same 𝟘 k T (λ j. (a j ⊕ b j) ⊗ position ◌⊗◌ 𝟙 α (k + T) j)
       (λ j l. ap (λ (t : F). (t ⊕ b j) ⊗ position ◌⊗◌ 𝟙 α (k + T) j) (h j l) ∙ ap (λ (t : F). t ⊗ position ◌⊗◌ 𝟙 α (k + T) j)
-      (Sum-self (b j)) ∙ zero_mul K (position ◌⊗◌ 𝟙 α (k + T) j)))
+      (sum_self (b j)) ∙ zero_mul K (position ◌⊗◌ 𝟙 α (k + T) j)))

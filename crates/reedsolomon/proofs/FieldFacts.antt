@@ -5,13 +5,13 @@ use Rattle.field.specs.Laws.{Field}
 module _ {F : Type 0} {In : F → Type 0} {◌⊕◌ ◌⊗◌ : F → F → F} {𝟘 𝟙 : F} {inv : F → F} (K : Field In ◌⊕◌ ◌⊗◌ 𝟘 𝟙 inv) where
   infixl 20 ◌⊕◌
   infixl 30 ◌⊗◌
-  open K use {sum_assoc, sum_comm, sum_zero, Sum-self, mul_assoc, mul_comm, mul_sum, mul_one, mul_inv}
+  open K use {sum_assoc, sum_comm, sum_zero, sum_self, mul_assoc, mul_comm, mul_sum, mul_one, mul_inv}
 
   pub zero_sum : (a : F) → 𝟘 ⊕ a ≡ a
   zero_sum a = sum_comm 𝟘 a ∙ sum_zero a
 
   pub mul_zero : (a : F) → a ⊗ 𝟘 ≡ 𝟘
-  mul_zero a = ap (λ (t : F). a ⊗ t) (sym (Sum-self 𝟘)) ∙ mul_sum a 𝟘 𝟘 ∙ Sum-self (a ⊗ 𝟘)
+  mul_zero a = ap (λ (t : F). a ⊗ t) (sym (sum_self 𝟘)) ∙ mul_sum a 𝟘 𝟘 ∙ sum_self (a ⊗ 𝟘)
 
   pub zero_mul : (a : F) → 𝟘 ⊗ a ≡ 𝟘
   zero_mul a = mul_comm 𝟘 a ∙ mul_zero a
@@ -33,7 +33,7 @@ module _ {F : Type 0} {In : F → Type 0} {◌⊕◌ ◌⊗◌ : F → F → F} 
 
   -- adding twice is adding nothing
   pub sum_twice : (a b : F) → a ⊕ (a ⊕ b) ≡ b
-  sum_twice a b = sym (sum_assoc a a b) ∙ ap (λ (t : F). t ⊕ b) (Sum-self a) ∙ zero_sum b
+  sum_twice a b = sym (sum_assoc a a b) ∙ ap (λ (t : F). t ⊕ b) (sum_self a) ∙ zero_sum b
 
   -- two elements are equal where their sum is 0
   pub sum_cancel : (a b : F) → a ⊕ b ≡ 𝟘 → a ≡ b

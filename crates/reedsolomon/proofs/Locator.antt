@@ -24,7 +24,7 @@ module _ {F : Type 0} {In : F → Type 0} {◌⊕◌ ◌⊗◌ : F → F → F} 
     (same : (a b : F) → Dec (a ≡ b)) where
   infixl 20 ◌⊕◌
   infixl 30 ◌⊗◌
-  open K use {Sum-self, mul_comm, in_sum, in_mul}
+  open K use {sum_self, mul_comm, in_sum, in_mul}
 
   abbrev value_of : ℕ → (ℕ → F) → F → F
   value_of k p x = value ◌⊕◌ ◌⊗◌ 𝟘 k p x
@@ -86,7 +86,7 @@ module _ {F : Type 0} {In : F → Type 0} {◌⊕◌ ◌⊗◌ : F → F → F} 
     -- and where the words agree
     pub no_weight_at_right_column : (j : ℕ) → j < N → w j ≡ c j → left j ≡ 𝟘
     no_weight_at_right_column j l e =
-        ap (times_distances ◌⊕◌ ◌⊗◌ X E N (X j)) (ap (λ (t : F). (t ⊕ c j) ⊗ X j) e ∙ ap (λ (t : F). t ⊗ X j) (Sum-self (c j)) ∙ zero_mul K (X j))
+        ap (times_distances ◌⊕◌ ◌⊗◌ X E N (X j)) (ap (λ (t : F). (t ⊕ c j) ⊗ X j) e ∙ ap (λ (t : F). t ⊗ X j) (sum_self (c j)) ∙ zero_mul K (X j))
         ∙ distances_of_zero K X E N (X j)
 
     -- but not at the others

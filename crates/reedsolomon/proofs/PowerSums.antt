@@ -10,7 +10,7 @@ use Rattle.reedsolomon.proofs.Sums.{sum_of_sums, sum_of_multiples, sum_of_equals
 module _ {F : Type 0} {In : F → Type 0} {◌⊕◌ ◌⊗◌ : F → F → F} {𝟘 𝟙 : F} {inv : F → F} (K : Field In ◌⊕◌ ◌⊗◌ 𝟘 𝟙 inv) where
   infixl 20 ◌⊕◌
   infixl 30 ◌⊗◌
-  open K use {Sum-self, mul_assoc, mul_comm, mul_sum, in_sum}
+  open K use {sum_self, mul_assoc, mul_comm, mul_sum, in_sum}
 
   abbrev ◌^^◌ : F → ℕ → F
   a ^^ n = power ◌⊗◌ 𝟙 a n
@@ -35,7 +35,7 @@ module _ {F : Type 0} {In : F → Type 0} {◌⊕◌ ◌⊗◌ : F → F → F} 
 
   -- at the locator itself the weight is now 0
   pub no_weight_at_modified_locator : (c x y : F) → x ≡ y → c ⊗ (x ⊕ y) ≡ 𝟘
-  no_weight_at_modified_locator c x y e = ap (λ (t : F). c ⊗ (t ⊕ y)) e ∙ ap (λ (t : F). c ⊗ t) (Sum-self y) ∙ mul_zero K c
+  no_weight_at_modified_locator c x y e = ap (λ (t : F). c ⊗ (t ⊕ y)) e ∙ ap (λ (t : F). c ⊗ t) (sum_self y) ∙ mul_zero K c
 
   -- elsewhere it is 0 only where it was
   pub weight_at_other_locator : (c x y : F) → In c → In x → In y → (x ≡ y → ⊥) → c ⊗ (x ⊕ y) ≡ 𝟘 → c ≡ 𝟘

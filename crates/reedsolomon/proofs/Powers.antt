@@ -11,7 +11,7 @@ use Rattle.reedsolomon.proofs.FieldFacts.{one_mul, sum_cancel, no_divisor, mul_e
 module _ {F : Type 0} {In : F → Type 0} {◌⊕◌ ◌⊗◌ : F → F → F} {𝟘 𝟙 : F} {inv : F → F} (K : Field In ◌⊕◌ ◌⊗◌ 𝟘 𝟙 inv) where
   infixl 20 ◌⊕◌
   infixl 30 ◌⊗◌
-  open K use {Sum-self, mul_assoc, mul_comm, mul_sum, mul_one, in_one, in_sum, in_mul, one_not_zero}
+  open K use {sum_self, mul_assoc, mul_comm, mul_sum, mul_one, in_one, in_sum, in_mul, one_not_zero}
 
   abbrev ◌^^◌ : F → ℕ → F
   a ^^ n = power ◌⊗◌ 𝟙 a n
@@ -67,7 +67,7 @@ module _ {F : Type 0} {In : F → Type 0} {◌⊕◌ ◌⊗◌ : F → F → F} 
         (power_not_zero a ord.element ord.not_zero i)
         (mul_comm (𝟙 ⊕ a ^^ suc d) (a ^^ i) ∙ mul_sum (a ^^ i) 𝟙 (a ^^ suc d)
         ∙ ap₂ ◌⊕◌ (mul_one (a ^^ i) (power_in a i) ∙ e) (sym (power_of_sum a i (suc d)))
-        ∙ Sum-self (a ^^ (i + suc d)))))))
+        ∙ sum_self (a ^^ (i + suc d)))))))
 
     pub powers_are_distinct : (i j : ℕ) → i < N → j < N → a ^^ i ≡ a ^^ j → i ≡ j
     powers_are_distinct i j hi hj e =

@@ -49,7 +49,7 @@ module _ {F : Type 0} {In : F → Type 0} {◌⊕◌ ◌⊗◌ : F → F → F} 
     (same : (a b : F) → Dec (a ≡ b)) where
   infixl 20 ◌⊕◌
   infixl 30 ◌⊗◌
-  open K use {Sum-self, in_sum, in_mul}
+  open K use {sum_self, in_sum, in_mul}
 
   -- two words differ at erased columns, and where one of them differs from w
   pub differences_are_errors : (X : ℕ → F) (E : ℕ → Bool) (w a b : ℕ → F) (n : ℕ)
@@ -62,7 +62,7 @@ module _ {F : Type 0} {In : F → Type 0} {◌⊕◌ ◌⊗◌ : F → F → F} 
       omega arith
     where
       alike : w n ≡ a n → w n ≡ b n → (a n ⊕ b n) ⊗ X n ≡ 𝟘
-      alike p q = ap₂ (λ (x y : F). (x ⊕ y) ⊗ X n) (sym p) (sym q) ∙ ap (λ (t : F). t ⊗ X n) (Sum-self (w n)) ∙ zero_mul K (X n)
+      alike p q = ap₂ (λ (x y : F). (x ⊕ y) ⊗ X n) (sym p) (sym q) ∙ ap (λ (t : F). t ⊗ X n) (sum_self (w n)) ∙ zero_mul K (X n)
 
       one_column : (e : Bool) {A B C : Type 0} (c : Dec C) (x : Dec A) (y : Dec B) → (A → B → C)
           → unequal c ≤ indicator e + wrong e x + wrong e y

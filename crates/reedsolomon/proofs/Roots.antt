@@ -17,7 +17,7 @@ use Rattle.reedsolomon.proofs.PowerSums.{weight_at_other_locator}
 module _ {F : Type 0} {In : F → Type 0} {◌⊕◌ ◌⊗◌ : F → F → F} {𝟘 𝟙 : F} {inv : F → F} (K : Field In ◌⊕◌ ◌⊗◌ 𝟘 𝟙 inv) where
   infixl 20 ◌⊕◌
   infixl 30 ◌⊗◌
-  open K use {sum_assoc, sum_zero, Sum-self, mul_sum}
+  open K use {sum_assoc, sum_zero, sum_self, mul_sum}
 
   abbrev value_of : ℕ → (ℕ → F) → F → F
   value_of k p x = value ◌⊕◌ ◌⊗◌ 𝟘 k p x
@@ -38,7 +38,7 @@ module _ {F : Type 0} {In : F → Type 0} {◌⊕◌ ◌⊗◌ : F → F → F} 
     where
       added_twice : (h : F) → h ⊗ x ≡ h ⊗ (x ⊕ r) ⊕ h ⊗ r
       added_twice h =
-          sym (sum_zero (h ⊗ x)) ∙ ap (λ (t : F). h ⊗ x ⊕ t) (sym (Sum-self (h ⊗ r))) ∙ sym (sum_assoc (h ⊗ x) (h ⊗ r) (h ⊗ r))
+          sym (sum_zero (h ⊗ x)) ∙ ap (λ (t : F). h ⊗ x ⊕ t) (sym (sum_self (h ⊗ r))) ∙ sym (sum_assoc (h ⊗ x) (h ⊗ r) (h ⊗ r))
           ∙ ap (λ (t : F). t ⊕ h ⊗ r) (sym (mul_sum h x r))
 
       regroup : (q h b : F) → (q ⊗ (x ⊕ r) ⊕ h) ⊗ x ⊕ b ≡ (q ⊗ x ⊕ h) ⊗ (x ⊕ r) ⊕ (h ⊗ r ⊕ b)
