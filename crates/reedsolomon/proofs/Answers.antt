@@ -55,7 +55,7 @@ module _ (m g N T : ℕ) (t : Primitive m g) (few : N < 2 ^ m) where
   pub order : OrderAtLeast Within (mul m g) 0 1 N α
   order =
       record {
-        element = Ring.two-lt m g t.degree t.wide;
+        element = Ring.two_lt m g t.degree t.wide;
         not_zero = λ e. absurd (omega arith);
         not_one = λ k h l e. power_order m g t k h (omega arith) (same_power m g α k ∙ e);
       }
