@@ -4,14 +4,13 @@ use mathlib.Core.Path.{◌≡◌, refl}
 use mathlib.Core.Logic.{inl, inr}
 use Rattle.stack.proofs.Ranks.{span_code, span_lead}
 use native.Mathlib.Omega.{arith}
-use borrow.Author.Rules.{rules}
 use Rattle.stack.proofs.first_child.Goals as goal
 
 pub rank_at-r0-requires : goal.rank_at-r0-requires
 rank_at-r0-requires c = record {
-        i_bound = omega (arith, c.requires.paths_bound);
-        small = c.requires.every c.args.c c.requires.paths_bound.1;
-      }
+  i_bound = omega (arith, c.requires.paths_bound);
+  small = c.requires.every c.args.c c.requires.paths_bound.1;
+}
 
 pub returns-then-paths-c-lt2 : goal.returns-then-paths-c-lt2
 returns-then-paths-c-lt2 c =
@@ -21,9 +20,9 @@ returns-then-paths-c-lt2 c =
 pub rank_at-r1-requires : goal.rank_at-r1-requires
 rank_at-r1-requires c =
     let a = c in record {
-        i_bound = omega (arith, a.requires.paths_bound, c.if-paths-c-lt2.false);
-        small = a.requires.every (a.args.c + 1) (omega (arith, a.requires.paths_bound, c.if-paths-c-lt2.false));
-      }
+      i_bound = omega (arith, a.requires.paths_bound, c.if-paths-c-lt2.false);
+      small = a.requires.every (a.args.c + 1) (omega (arith, a.requires.paths_bound, c.if-paths-c-lt2.false));
+    }
 
 pub returns-then-paths-c-lt3 : goal.returns-then-paths-c-lt3
 returns-then-paths-c-lt3 c =
@@ -35,9 +34,9 @@ returns-then-paths-c-lt3 c =
 pub rank_at-r2-requires : goal.rank_at-r2-requires
 rank_at-r2-requires c =
     let a = c in record {
-        i_bound = omega (arith, a.requires.paths_bound, c.if-paths-c-lt3.false);
-        small = a.requires.every (a.args.c + 2) (omega (arith, a.requires.paths_bound, c.if-paths-c-lt3.false));
-      }
+      i_bound = omega (arith, a.requires.paths_bound, c.if-paths-c-lt3.false);
+      small = a.requires.every (a.args.c + 2) (omega (arith, a.requires.paths_bound, c.if-paths-c-lt3.false));
+    }
 
 pub returns-then-paths-c-lt4 : goal.returns-then-paths-c-lt4
 returns-then-paths-c-lt4 c =
@@ -52,23 +51,23 @@ returns-then-paths-c-lt4 c =
 pub rank_at-r1-requires-2 : goal.rank_at-r1-requires-2
 rank_at-r1-requires-2 c =
     let a = c in record {
-        i_bound = omega (arith, a.requires.paths_bound, c.if-paths-c-lt4.false);
-        small = a.requires.every (a.args.c + 1) (omega (arith, a.requires.paths_bound, c.if-paths-c-lt4.false));
-      }
+      i_bound = omega (arith, a.requires.paths_bound, c.if-paths-c-lt4.false);
+      small = a.requires.every (a.args.c + 1) (omega (arith, a.requires.paths_bound, c.if-paths-c-lt4.false));
+    }
 
 pub rank_at-r2-requires-2 : goal.rank_at-r2-requires-2
 rank_at-r2-requires-2 c =
     let a = c in record {
-        i_bound = omega (arith, a.requires.paths_bound, c.if-paths-c-lt4.false);
-        small = a.requires.every (a.args.c + 2) (omega (arith, a.requires.paths_bound, c.if-paths-c-lt4.false));
-      }
+      i_bound = omega (arith, a.requires.paths_bound, c.if-paths-c-lt4.false);
+      small = a.requires.every (a.args.c + 2) (omega (arith, a.requires.paths_bound, c.if-paths-c-lt4.false));
+    }
 
 pub rank_at-r3-requires : goal.rank_at-r3-requires
 rank_at-r3-requires c =
     let a = c in record {
-        i_bound = omega (arith, a.requires.paths_bound, c.if-paths-c-lt4.false);
-        small = a.requires.every (a.args.c + 3) (omega (arith, a.requires.paths_bound, c.if-paths-c-lt4.false));
-      }
+      i_bound = omega (arith, a.requires.paths_bound, c.if-paths-c-lt4.false);
+      small = a.requires.every (a.args.c + 3) (omega (arith, a.requires.paths_bound, c.if-paths-c-lt4.false));
+    }
 
 pub returns : goal.returns
 returns c =

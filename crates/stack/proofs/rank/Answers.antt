@@ -3,7 +3,6 @@ use Prim.Native.Nat.{ℕ, ◌+◌, ◌-◌, ◌*◌, ◌%◌}
 use mathlib.Core.Path.{ap, ◌∙◌}
 use mir.Facts.{to_z-of_z}
 use Rattle.stack.specs.Places.{lifted, rank_of}
-use borrow.Author.Rules.{rules}
 use Rattle.stack.proofs.rank.Goals as goal
 
 pub returns : goal.returns

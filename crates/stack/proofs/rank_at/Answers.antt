@@ -7,7 +7,6 @@ use mir.Facts.{to_z-of_z}
 use Rattle.trellis.specs.Keys.{key}
 use Rattle.stack.specs.Places.{rank_of}
 use Rattle.stack.proofs.Ranks.{span_one}
-use borrow.Author.Rules.{rules}
 use Rattle.stack.proofs.rank_at.Goals as goal
 
 pub returns : goal.returns

@@ -16,21 +16,21 @@ pub returns-then-m-eq0 : goal.returns-then-m-eq0
 returns-then-m-eq0 c =
     let g = c in
     let a = g in record {
-        room_2 = a.requires.room;
-        out = out_last _ _ _ a.requires.paths_nonzero.0 c.if-m-eq0.true (key_sum (get_or a.args.lens.now 0 0) (get_or a.args.bits.now 0 0) _ _ (sym (to_z-of_z {w = w16} (record { sfits = g.st-1.given }))));
-      }
+      room_2 = a.requires.room;
+      out = out_last _ _ _ a.requires.paths_nonzero.0 c.if-m-eq0.true (key_sum (get_or a.args.lens.now 0 0) (get_or a.args.bits.now 0 0) _ _ (sym (to_z-of_z {w = w16} (record { sfits = search rules }))));
+    }
 
 pub sink-requires : goal.sink-requires
 sink-requires c =
     let e = c in
     let a = e in
     let q = a.requires.every (a.args.paths - 1) (omega (arith, a.requires.paths_nonzero)) in record {
-        paths_nonzero = (omega (arith, e.if-m-eq0.false), omega (arith, a.requires.paths_nonzero.1));
-        room = a.requires.room;
-        heap = heap_less _ _ _ (omega arith) a.requires.heap;
-        every = (λ j h. a.requires.every j (omega arith));
-        small = record { len = q.len; bits = q.bits };
-      }
+      paths_nonzero = (omega (arith, e.if-m-eq0.false), omega (arith, a.requires.paths_nonzero.1));
+      room = a.requires.room;
+      heap = heap_less _ _ _ (omega arith) a.requires.heap;
+      every = (λ j h. a.requires.every j (omega arith));
+      small = record { len = q.len; bits = q.bits };
+    }
 
 pub returns : goal.returns
 returns c =
@@ -40,8 +40,8 @@ returns c =
     let a = g in
     let m = a.args.paths - 1 in
     let f₀ = at a.args.sums.now a.args.lens.now a.args.bits.now in
-    let k = key_sum (get_or a.args.lens.now m 0) (get_or a.args.bits.now m 0) _ _ (to_z-of_z {w = w16} (record { sfits = f.s-1.given })) in record {
-        room_2 = c.sink.ensures.room_2;
-        out = out_moved f₀ _ a.args.paths _ a.requires.paths_nonzero.0 a.requires.heap (key_sum (get_or a.args.lens.now 0 0) (get_or a.args.bits.now 0 0) _ _ (sym (to_z-of_z {w = w16} (record { sfits = g.st-1.given }))))
+    let k = key_sum (get_or a.args.lens.now m 0) (get_or a.args.bits.now m 0) _ _ (to_z-of_z {w = w16} (record { sfits = search rules })) in record {
+      room_2 = c.sink.ensures.room_2;
+      out = out_moved f₀ _ a.args.paths _ a.requires.paths_nonzero.0 a.requires.heap (key_sum (get_or a.args.lens.now 0 0) (get_or a.args.bits.now 0 0) _ _ (sym (to_z-of_z {w = w16} (record { sfits = search rules }))))
           c.sink.ensures.heap_2 (λ h. c.sink.ensures.by_index h ∙ ap (λ (y : Key). weigh h f₀ m + h y) k);
-      }
+    }
