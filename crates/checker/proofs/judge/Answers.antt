@@ -35,7 +35,7 @@ advanced st = advanced_at _ _ _ _ _ _ _ _ _ _ (record { sfits = st.struct_told-1
 
 -- the line is in the listing, and its number fits
 some_line : (i : goal.In-loop-k invariant-loop-k decreases-loop-k) → i.loop-k.k < 2000
-some_line i = omega (arith, i.loop-k-test.true, (start i.before).pre.0.few)
+some_line i = omega (arith, i.loop-k-test.true, (start i.before).requires.lines.few)
 
 -- the verdict of the judge on keys
 abbrev verdict : goal.At-loop-k invariant-loop-k decreases-loop-k → Verdict
@@ -49,7 +49,7 @@ told : (v : goal.At-loop-k invariant-loop-k decreases-loop-k) (w : Verdict) → 
     → code_verdict w ≡ code_verdict (judged_keys (key_nodes a.args.n vs a.args.col.now a.args.left.now a.args.right.now) a.args.lengths.now a.args.numbers.now))
 told v w e vs tb =
     let a = start v in
-    contract a.args.n a.args.values.now a.args.col.now a.args.left.now a.args.right.now a.args.lengths.now a.args.numbers.now vs a.pre.1.0 tb _ (ap code_verdict (sym e))
+    contract a.args.n a.args.values.now a.args.col.now a.args.left.now a.args.right.now a.args.lengths.now a.args.numbers.now vs a.requires.given tb _ (ap code_verdict (sym e))
 
 -- after the last line
 at_the_end : (v : goal.At-loop-k invariant-loop-k decreases-loop-k) → length (start v).args.lengths.now ≤ v.loop-k.k → (full : Bool) → eqb v.loop-k.l (start v).args.n ≡ full → verdict v ≡ cond full accepted (wrong (v.loop-k.k + 1))
@@ -80,8 +80,8 @@ advance-t-requires c =
     let v = c in
     let a = start v in
     let j = v.loop-k.invariant.1 in record {
-        paths_bound = omega (arith, j.standing.few, j.within, a.pre.0.few);
-        given = a.pre.1.0;
+        paths_bound = omega (arith, j.standing.few, j.within, a.requires.lines.few);
+        given = a.requires.given;
         good = j.standing.good;
         room = v.loop-k.invariant.0;
         heap = j.standing.heap;
@@ -100,7 +100,7 @@ offset_bounds-numbers-k c = omega (arith, some_line (turn c.before))
 pub bounds-numbers-k : goal.bounds-numbers-k
 bounds-numbers-k c =
     let i = turn c.before in
-    omega (arith, i.loop-k-test.taken, (start i.before).pre.0.both)
+    omega (arith, i.loop-k-test.taken, (start i.before).requires.lines.both)
 
 pub returns-then-not-names : goal.returns-then-not-names
 unfolding code_verdict

@@ -21,7 +21,7 @@ use Rattle.checker.proofs.judge.Given as goal
 
 abbrev pub invariant-loop-k : goal.invariant-loop-k
 invariant-loop-k l =
-    Room l.sums l.lens l.bits × Judging (table_nodes l.n l.values l.col l.left l.right) l.n l.lengths l.numbers (at l.sums l.lens l.bits) l.paths l.k (key (to_z w16 l.s) l.l l.b)
+    Room l.sums l.lens l.bits × Judging (table_nodes l.n l.values l.col l.left l.right) l.n l.lengths l.numbers (at l.sums l.lens l.bits) l.paths l.k (key l.s l.l l.b)
 
 abbrev pub decreases-loop-k : goal.decreases-loop-k
 decreases-loop-k l = length l.lengths - l.k

@@ -22,7 +22,7 @@ pub returns-then-stands_before : goal.returns-then-stands_before
 returns-then-stands_before c =
     let a = c in
     let f = at a.args.sums.now a.args.lens.now a.args.bits.now in
-    let z = to_z-of_z {w = w16} (record { sfits = c.s0-1.given }) in
+    let z = to_z-of_z {w = w16} (record { sfits = search rules }) in
     let first = key_sum (get_or a.args.lens.now 0 0) (get_or a.args.bits.now 0 0) _ _ z in
     let x = key_sum a.args.l a.args.b _ _ (to_z-of_z a.ranges.s) in
     let b = sym c.stands_before.ensures ∙ c.if-stands_before.true in record {
@@ -35,7 +35,7 @@ pub loop-i-init : goal.loop-i-init
 loop-i-init c =
     let a = c in
     let f = at a.args.sums.now a.args.lens.now a.args.bits.now in
-    let z = to_z-of_z {w = w16} (record { sfits = c.s0-1.given }) in
+    let z = to_z-of_z {w = w16} (record { sfits = search rules }) in
     let first = key_sum (get_or a.args.lens.now 0 0) (get_or a.args.bits.now 0 0) _ _ z in
     let b = sym c.stands_before.ensures ∙ c.if-stands_before.false in (
       a.requires.places,
@@ -46,7 +46,7 @@ loop-i-init c =
 pub loop-i-preserved : goal.loop-i-preserved
 loop-i-preserved c =
     let p = c in
-    let f = to_z-of_z {w = w16} (record { sfits = c.sp-1.given }) in
+    let f = to_z-of_z {w = w16} (record { sfits = search rules }) in
     (room_set _ _ _ _ _ _ _ p.loop-i.invariant.0, p.loop-i.invariant.1, lowered_step _ _ _ _ _ _ _ p.loop-i.invariant.0 (omega arith) p.loop-i.invariant.2 _ (omega (arith, c.loop-i-test.true)) f (sym c.stands_before-in-loop-i.ensures ∙ c.if-stands_before-2.false))
 
 pub returns : goal.returns
@@ -55,6 +55,6 @@ returns c =
     let v = c.loop-i.invariant in record {
         places_2 = room_set _ _ _ _ _ _ _ v.0;
         bits_after = lowered_end _ _ _ _ _ _ _ v.0 (omega arith) v.2 v.1
-          (⊎_elim (λ w. inl (omega (arith, w.left))) (λ w. inr ((_, to_z-of_z {w = w16} (record { sfits = w.1.given }), sym w.4.ensures ∙ w.5.taken))) c.loop-i-test.branch)
+          (⊎_elim (λ w. inl (omega (arith, w.left))) (λ w. inr ((_, to_z-of_z {w = w16} (record { sfits = search rules }), sym w.4.ensures ∙ w.5.taken))) c.loop-i-test.branch)
           ∙ ap (λ (z : ℤ). take 63 (placed (key z a.args.l a.args.b) (listed (at a.args.sums.now a.args.lens.now a.args.bits.now) 63))) (to_z-of_z a.ranges.s);
       }

@@ -20,7 +20,7 @@ use borrow.Author.Rules.{rules}
 use Rattle.chip.proofs.displace.Given as goal
 
 abbrev pub invariant-loop-i : goal.invariant-loop-i
-invariant-loop-i l = Places l.sums l.lens l.bits × Ordered Upto (listed (at l.initial.sums l.initial.lens l.initial.bits) 63) × Lowered (at l.initial.sums l.initial.lens l.initial.bits) (at l.sums l.lens l.bits) (key (to_z w16 l.s) l.l l.b) l.i 63
+invariant-loop-i l = Places l.sums l.lens l.bits × Ordered Upto (listed (at l.initial.sums l.initial.lens l.initial.bits) 63) × Lowered (at l.initial.sums l.initial.lens l.initial.bits) (at l.sums l.lens l.bits) (key l.s l.l l.b) l.i 63
 
 abbrev pub decreases-loop-i : goal.decreases-loop-i
 decreases-loop-i l = 62 - l.i

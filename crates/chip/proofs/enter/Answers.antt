@@ -21,7 +21,7 @@ loop-i-init c = (c.requires.paths_bound, c.requires.places, moved_start _ _ _)
 pub loop-i-preserved : goal.loop-i-preserved
 loop-i-preserved c =
     let p = c in
-    let f = to_z-of_z {w = w16} (record { sfits = c.sp-1.given }) in
+    let f = to_z-of_z {w = w16} (record { sfits = search rules }) in
     (p.loop-i.invariant.0, room_set _ _ _ _ _ _ _ p.loop-i.invariant.1, moved_step _ _ _ _ _ _ _ p.loop-i.invariant.1 p.loop-i.invariant.0 p.loop-i.invariant.2 _ c.loop-i-test.true f (sym c.stands_before.ensures ∙ not-false c.stands_before.result c.if-not-stands_before.false))
 
 pub returns : goal.returns
@@ -29,6 +29,6 @@ returns c =
     let a = c in
     let v = c.loop-i.invariant in record {
         places_2 = room_set _ _ _ _ _ _ _ v.1;
-        paths_after = moved_end _ _ _ _ _ _ _ v.1 v.0 v.2 (⊎_elim (λ w. inl (omega arith)) (λ w. inr ((_, to_z-of_z {w = w16} (record { sfits = w.1.given }), sym w.4.ensures ∙ not-true w.4.result w.5.taken))) c.loop-i-test.branch)
+        paths_after = moved_end _ _ _ _ _ _ _ v.1 v.0 v.2 (⊎_elim (λ w. inl (omega arith)) (λ w. inr ((_, to_z-of_z {w = w16} (record { sfits = search rules }), sym w.4.ensures ∙ not-true w.4.result w.5.taken))) c.loop-i-test.branch)
           ∙ ap (λ (z : ℤ). placed (key z a.args.l a.args.b) (listed (at a.args.sums.now a.args.lens.now a.args.bits.now) a.args.paths)) (to_z-of_z a.ranges.s);
       }

@@ -17,7 +17,7 @@ use borrow.Author.Rules.{rules}
 use Rattle.chip.proofs.enter.Given as goal
 
 abbrev pub invariant-loop-i : goal.invariant-loop-i
-invariant-loop-i l = (l.paths < 64) × Places l.sums l.lens l.bits × Moved (at l.initial.sums l.initial.lens l.initial.bits) (at l.sums l.lens l.bits) (key (to_z w16 l.s) l.l l.b) l.i l.paths
+invariant-loop-i l = (l.paths < 64) × Places l.sums l.lens l.bits × Moved (at l.initial.sums l.initial.lens l.initial.bits) (at l.sums l.lens l.bits) (key l.s l.l l.b) l.i l.paths
 
 abbrev pub decreases-loop-i : goal.decreases-loop-i
 decreases-loop-i l = l.i

@@ -29,7 +29,7 @@ returns-then-st-s c =
     let g = c in
     let a = g in
     let f = at a.args.sums.now a.args.lens.now a.args.bits.now in
-    let less = lt_flag (get_or a.args.sums.now (a.args.paths - 1) (pos 0)) a.args.s (record { sfits = g.st-1.given }) a.ranges.s c.if-st-s.true in record {
+    let less = lt_flag (get_or a.args.sums.now (a.args.paths - 1) (pos 0)) a.args.s (record { sfits = search rules }) a.ranges.s c.if-st-s.true in record {
         places_2 = a.requires.places;
         paths_value = exchanged_not f a.args.paths (key a.args.s a.args.l a.args.b) _ (omega (arith, g.if-paths-eq0.false)) (root_after _ _ _ _ _ _ less) (key_sum a.args.l a.args.b _ _ (to_z-of_z a.ranges.s));
       }
@@ -39,7 +39,7 @@ returns-then-stands_before c =
     let t = c in
     let g = t in
     let a = g in
-    let z = to_z-of_z {w = w16} (record { sfits = g.st-1.given }) in
+    let z = to_z-of_z {w = w16} (record { sfits = search rules }) in
     let top = key_sum (get_or a.args.lens.now (a.args.paths - 1) 0) (get_or a.args.bits.now (a.args.paths - 1) 0) _ _ z in
     let x = key_sum a.args.l a.args.b _ _ (to_z-of_z a.ranges.s) in
     let f = at a.args.sums.now a.args.lens.now a.args.bits.now in
@@ -54,7 +54,7 @@ pub returns : goal.returns
 returns c =
     let g = c in
     let a = g in
-    let z = to_z-of_z {w = w16} (record { sfits = g.st-1.given }) in
+    let z = to_z-of_z {w = w16} (record { sfits = search rules }) in
     let top = key_sum (get_or a.args.lens.now (a.args.paths - 1) 0) (get_or a.args.bits.now (a.args.paths - 1) 0) _ _ z in
     let x = key_sum a.args.l a.args.b _ _ (to_z-of_z a.ranges.s) in
     let f = at a.args.sums.now a.args.lens.now a.args.bits.now in

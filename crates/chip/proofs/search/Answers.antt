@@ -42,8 +42,8 @@ advance-t-requires c =
     let v = i.loop-count.invariant in
     let a = start i.before in record {
         paths_bound = (v.1.few, v.1.part);
-        given = a.pre.0;
-        leading = a.pre.1.0;
+        given = a.requires.given;
+        leading = a.requires.leading;
         good = v.1.good;
         places = v.0;
         ordered = v.1.ordered;
@@ -57,7 +57,7 @@ returns-then-l-eq0 c =
     let v = i.loop-count.inv in
     let a = start i.before in record {
         places_2 = st.advance-t.ensures.places_2;
-        value = λ vs tb. contract a.args.n a.args.values.now a.args.col.now a.args.left.now a.args.right.now a.args.limit vs a.pre.0 tb _
+        value = λ vs tb. contract a.args.n a.args.values.now a.args.col.now a.args.left.now a.args.right.now a.args.limit vs a.requires.given tb _
           (ap (λ (b : Bool). ended_with Spent i.loop-count.count b) st.either-pushed.ensures ∙ emptied_is a.args.n a.args.values.now a.args.col.now a.args.left.now a.args.right.now a.args.limit _ _ _ _ _ _ _ _ _ _ i.loop-count-test.taken (stepped st) v.1 c.if-l-eq0.true);
       }
 
@@ -65,7 +65,7 @@ pub overflow_add-count : goal.overflow_add-count
 overflow_add-count c =
     let i = c in
     let a = start i.before in
-    omega (arith, i.loop-count-test.true, a.fits.limit)
+    omega (arith, i.loop-count-test.true, a.ranges.limit)
 
 pub returns-then-l-n : goal.returns-then-l-n
 returns-then-l-n c =
@@ -75,8 +75,8 @@ returns-then-l-n c =
     let v = i.loop-count.inv in
     let a = start i.before in record {
         places_2 = st.advance-t.ensures.places_2;
-        value = λ vs tb. contract a.args.n a.args.values.now a.args.col.now a.args.left.now a.args.right.now a.args.limit vs a.pre.0 tb _
-          (ap₂ (λ (z : ℤ) (b : Bool). ended_with (Found st.advance-t.result.bits (i.loop-count.count + 1) z) (i.loop-count.count + 1) b) (to_z-of_z {w = w16} (record { sfits = lo.lower-low.type-inv }) ∙ lo.lower-low.ensures) st.either-pushed.ensures
+        value = λ vs tb. contract a.args.n a.args.values.now a.args.col.now a.args.left.now a.args.right.now a.args.limit vs a.requires.given tb _
+          (ap₂ (λ (z : ℤ) (b : Bool). ended_with (Found st.advance-t.result.bits (i.loop-count.count + 1) z) (i.loop-count.count + 1) b) (to_z-of_z {w = w16} (record { sfits = lo.lower-low.type_inv }) ∙ lo.lower-low.ensures) st.either-pushed.ensures
           ∙ found_is a.args.n a.args.values.now a.args.col.now a.args.left.now a.args.right.now a.args.limit _ _ _ _ _ _ _ _ _ _ i.loop-count-test.taken (stepped st) v.1 lo.if-l-eq0.false c.if-l-n.true);
       }
 
@@ -93,7 +93,7 @@ loop-count-preserved c =
     let v = i.loop-count.inv in
     let a = start i.before in (
       st.advance-t.ensures.places_2,
-      going_at _ _ _ _ _ _ _ _ _ _ _ st.either-pushed.ensures (record { sfits = lo.lower-low.type-inv }) lo.lower-low.ensures
+      going_at _ _ _ _ _ _ _ _ _ _ _ st.either-pushed.ensures (record { sfits = lo.lower-low.type_inv }) lo.lower-low.ensures
           (going_next a.args.n a.args.values.now a.args.col.now a.args.left.now a.args.right.now a.args.limit _ _ _ _ _ _ _ _ _ _ i.loop-count-test.taken (stepped st) v.1 lo.if-l-eq0.false c.if-l-n.false),
     )
 
@@ -101,7 +101,7 @@ pub crowds-last-requires : goal.crowds-last-requires
 crowds-last-requires c =
     let v = c.loop-count.invariant in
     let a = start c.before in
-    (omega (arith, v.1.part, a.pre.0.lefts), omega (arith, v.1.part, a.pre.0.rights))
+    (omega (arith, v.1.part, a.requires.given.lefts), omega (arith, v.1.part, a.requires.given.rights))
 
 pub returns : goal.returns
 returns c =
@@ -110,7 +110,7 @@ returns c =
     let v = lp.loop-count.invariant in
     let a = start lp.before in record {
         places_2 = v.0;
-        value = λ vs tb. contract a.args.n a.args.values.now a.args.col.now a.args.left.now a.args.right.now a.args.limit vs a.pre.0 tb _
+        value = λ vs tb. contract a.args.n a.args.values.now a.args.col.now a.args.left.now a.args.right.now a.args.limit vs a.requires.given tb _
           (ap (λ (b : Bool). ended_with Spent lp.loop-count.count b) c.either.ensures ∙ spent_is a.args.n a.args.values.now a.args.col.now a.args.left.now a.args.right.now a.args.limit _ _ _ _ _ _ _ lp.loop-count-test.false v.1
-          (cr.crowds-last.ensures ∙ sym (crowded_is a.args.n a.args.col.now a.args.left.now a.args.right.now a.args.values.now a.pre.0 a.pre.1.0 _ _ _ v.1.part v.1.good _ _ v.1.few v.1.held v.1.ordered)));
+          (cr.crowds-last.ensures ∙ sym (crowded_is a.args.n a.args.col.now a.args.left.now a.args.right.now a.args.values.now a.requires.given a.requires.leading _ _ _ v.1.part v.1.good _ _ v.1.few v.1.held v.1.ordered)));
       }

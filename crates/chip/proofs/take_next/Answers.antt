@@ -17,5 +17,5 @@ pub returns : goal.returns
 returns c =
     let g = c in
     let a = g in
-    let z = to_z-of_z {w = w16} (record { sfits = c.st-1.given }) in
+    let z = to_z-of_z {w = w16} (record { sfits = search rules }) in
     out_first (at a.args.sums.now a.args.lens.now a.args.bits.now) a.args.paths _ (omega (arith, g.if-paths-eq0.false)) (key_sum (get_or a.args.lens.now (a.args.paths - 1) 0) (get_or a.args.bits.now (a.args.paths - 1) 0) _ _ z)

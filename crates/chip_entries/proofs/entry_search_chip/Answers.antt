@@ -10,5 +10,5 @@ use Rattle.chip_entries.proofs.entry_search_chip.Goals as goal
 pub returns : goal.returns
 returns c =
     let a = c.search_chip-a.result in
-    ap (λ (z : ℤ). record { number = a.number; place = a.place; word = a.word; count = a.count; low = z; pushed = a.pushed }) (to_z-of_z {w = w16} (record { sfits = c.struct_told-1.given.1.1.1.1.0.1 }))
+    ap (λ (z : ℤ). record { number = a.number; place = a.place; word = a.word; count = a.count; low = z; pushed = a.pushed }) (to_z-of_z {w = w16} (record { sfits = search rules }))
     ∙ ap chip_found_of c.search_chip-a.ensures

@@ -92,7 +92,7 @@ loop-level-preserved c =
     let given = out.settle_level-out.ensures.count_value in
     let few = subst (λ (n : ℕ). n ≤ 126000) (sym given.0) (read_of out.before).read-row.ensures.0.few in
     let longs = as_many _ _ _ _ _ _ _ (length-map turn.loop-level.work (chip_reader turn.args.limit turn.loop-level.level) ∙ turn.loop-level.inv.0.soft.many) (read_of out.before).read-row.ensures.0 in (
-      decoding_more _ _ _ _ _ _ _ _ _ turn.loop-level.inv.0 here _ _ (done_of out) (not-false _ c.if-not-settled.false) few given.1 _ (omega arith) _ (to_z-of_z (record { sfits = c.struct_told-in-loop-level-1.given.1.1.1.1.0.1 })),
+      decoding_more _ _ _ _ _ _ _ _ _ turn.loop-level.inv.0 here _ _ (done_of out) (not-false _ c.if-not-settled.false) few given.1 _ (omega arith) _ (to_z-of_z (record { sfits = search rules })),
       pushed_of out.before ∙ ap (some_below short short_outer (chip_reader turn.args.limit) turn.args.work.now (λ i c. (chip_column turn.args.limit i c).any_pushed_out)) (sym (add-one turn.loop-level.level)),
       longs.0,
       longs.1,

@@ -23,7 +23,7 @@ use Rattle.chip_pages.proofs.decode_columns.Given as goal
 
 abbrev pub invariant-loop-level : goal.invariant-loop-level
 invariant-loop-level l =
-    Decoding (chip_reader l.limit) l.initial.work l.work l.held l.changed l.erased l.sum (to_z w16 l.low) l.level × (l.pushed ≡ some_below short short_outer (chip_reader l.limit) l.initial.work (λ i c. (chip_column l.limit i c).any_pushed_out) l.level)
+    Decoding (chip_reader l.limit) l.initial.work l.work l.held l.changed l.erased l.sum l.low l.level × (l.pushed ≡ some_below short short_outer (chip_reader l.limit) l.initial.work (λ i c. (chip_column l.limit i c).any_pushed_out) l.level)
     × (length l.symbols ≡ 63) × (length l.marks ≡ 63)
 
 abbrev pub decreases-loop-level : goal.decreases-loop-level

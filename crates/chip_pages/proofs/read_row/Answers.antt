@@ -39,16 +39,16 @@ outcome_is : (found : goal.After-search_column-ended invariant-loop-j decreases-
     → (let a = (start (turn_of found)).args in found.search_column-ended.result ≡ code_outcome (chip_column a.limit a.level (get_or a.work.now (turn_of found).loop.j [])))
 outcome_is found =
     let turn = turn_of found in
-    found.search_column-ended.ensures.by_index (start turn).args.level (start turn).pre.0 (made_of turn).tables-of.ensures
+    found.search_column-ended.ensures.by_index (start turn).args.level (start turn).requires.0 (made_of turn).tables-of.ensures
 
 -- it is the column's reading
 searched_is : (found : goal.After-search_column-ended invariant-loop-j decreases-loop-j)
     → (let a = (start (turn_of found)).args in as_reading found.search_column-ended.result.count found.search_column-ended.result.found ≡ chip_reader a.limit a.level (get_or a.work.now (turn_of found).loop.j []))
-searched_is found = let a = start (turn_of found) in reads_it a.args.limit a.args.level a.pre.0 _ _ (outcome_is found)
+searched_is found = let a = start (turn_of found) in reads_it a.args.limit a.args.level a.requires.0 _ _ (outcome_is found)
 
 -- and counts at most the limit
 count_few : (turn : goal.At-loop-j invariant-loop-j decreases-loop-j) → count (chip_reader (start turn).args.limit (start turn).args.level (get_or (start turn).args.work.now turn.loop-j.j [])) ≤ 2000
-count_few turn = let a = start turn in omega (arith, count_within_the_limit a.args.limit a.args.level a.pre.0 (get_or a.args.work.now turn.loop-j.j []), a.pre.1)
+count_few turn = let a = start turn in omega (arith, count_within_the_limit a.args.limit a.args.level a.requires.0 (get_or a.args.work.now turn.loop-j.j []), a.requires.1)
 
 pub loop-j-init : goal.loop-j-init
 loop-j-init c =
@@ -71,13 +71,13 @@ search_column-ended-requires c =
     let long : j < length work = omega (arith, a.pre.2.many, c.loop-j-test.true) in
     let soft = all_at (λ x. (length x ≡ 30) × Soft x) work j [] a.pre.2.soft long in
     let tables = (made_of turn).tables-of.ensures in record {
-        searchable30 = column_searchable supercode a.args.level a.pre.0 _ _ _ _ soft.0 (soft_column_lem (get_or work j []) soft) tables;
-        leading = leading_tables a.args.level a.pre.0 _ _ _ tables;
+        searchable30 = column_searchable supercode a.args.level a.requires.0 _ _ _ _ soft.0 (soft_column_lem (get_or work j []) soft) tables;
+        leading = leading_tables a.args.level a.requires.0 _ _ _ tables;
         places = turn.loop-j.invariant.2;
       }
 
 pub enter-e-requires : goal.enter-e-requires
-enter-e-requires c = let a = start (turn_of c) in (a.pre.0, word_in_range a.args.limit a.args.level a.pre.0 _ _ (outcome_is c))
+enter-e-requires c = let a = start (turn_of c) in (a.requires.0, word_in_range a.args.limit a.args.level a.requires.0 _ _ (outcome_is c))
 
 pub overflow_add-sum : goal.overflow_add-sum
 overflow_add-sum c =
@@ -94,8 +94,8 @@ loop-j-preserved c =
     let entry = c.enter-e.ensures in
     let few : c.enter-e.result.count ≤ 2000 = omega (arith, entry.2 ∙ ap count (searched_is found), count_few turn) in
     let long : turn.loop-j.j < length a.args.work.now = omega (arith, a.pre.2.many, j63) in (
-      one_more_read _ _ _ _ _ _ _ _ _ _ _ _ _ _ turn.loop-j.inv.0 j63 (searched_is found) entry.0 entry.1 entry.2 (to_z-of_z (record { sfits = c.struct_told-1.given.1.1.1.0.1 }) ∙ entry.3) few,
-      c.either-pushed.ensures ∙ ap₂ ◌||◌ turn.loop-j.inv.1 (pushes_it a.args.limit a.args.level a.pre.0 _ _ (outcome_is found)) ∙ sym (one_more (λ c. (chip_column a.args.limit a.args.level c).any_pushed_out) a.args.work.now turn.loop-j.j long),
+      one_more_read _ _ _ _ _ _ _ _ _ _ _ _ _ _ turn.loop-j.inv.0 j63 (searched_is found) entry.0 entry.1 entry.2 (to_z-of_z (record { sfits = search rules }) ∙ entry.3) few,
+      c.either-pushed.ensures ∙ ap₂ ◌||◌ turn.loop-j.inv.1 (pushes_it a.args.limit a.args.level a.requires.0 _ _ (outcome_is found)) ∙ sym (one_more (λ c. (chip_column a.args.limit a.args.level c).any_pushed_out) a.args.work.now turn.loop-j.j long),
       found.search_column-ended.ensures.places_2,
     )
 
@@ -103,6 +103,6 @@ pub returns : goal.returns
 returns c =
     let turn = c in
     let a = start turn in (
-      all_read _ _ _ _ _ _ _ _ _ _ turn.loop-j.invariant.0 c.loop-j-test.false (to_z-of_z a.fits.lowest),
+      all_read _ _ _ _ _ _ _ _ _ _ turn.loop-j.invariant.0 c.loop-j-test.false (to_z-of_z a.ranges.lowest),
       turn.loop-j.invariant.1 ∙ all_of _ a.args.work.now turn.loop-j.j (omega (arith, a.pre.2.many, c.loop-j-test.false)),
     )

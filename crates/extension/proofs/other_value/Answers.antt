@@ -27,4 +27,4 @@ bounds-values-i c = omega (arith, other_place c.args.bit c.args.q c.requires.1 c
 pub returns : goal.returns
 returns c =
     let a = c in
-    to_z-of_z {w = w16} (record { sfits = c.result-1.given }) ∙ ap (λ (i : ℕ). get_or a.args.values.now i (pos 0)) (other_place a.args.bit a.args.q a.requires.1 a.requires.0)
+    to_z-of_z {w = w16} (record { sfits = search rules }) ∙ ap (λ (i : ℕ). get_or a.args.values.now i (pos 0)) (other_place a.args.bit a.args.q a.requires.1 a.requires.0)

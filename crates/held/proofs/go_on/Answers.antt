@@ -16,6 +16,7 @@ use Rattle.held.specs.State.{Stopped}
 use Rattle.held.proofs.Widths.{standing_same, reached_same, narrowed_same}
 use Rattle.held.proofs.GoesOn.{found_by_going_on, stops_again, reached_handed, outcome_handed, spent_has_no_word}
 use borrow.Author.Rules.{rules}
+use Rattle.held.proofs.go_on.Goals.{Start}
 use Rattle.held.proofs.go_on.Goals as goal
 
 -- what the types of an entry say
@@ -32,7 +33,7 @@ pub run-end-requires : goal.run-end-requires
 run-end-requires c =
     let tables = c in
     let wide = c.widened-bits in
-    let a = tables in
+    let a = (goal.at.run-end-requires c).Start in
     let ready = a.requires.ready in record {
         limit_bound = a.requires.limit_lt_limit.1;
         given = given_short _ _ _ _ (column_searchable supercode a.args.held.level ready.level _ _ _ _ ready.full ready.range tables.tables_of-tables.ensures);
@@ -45,12 +46,12 @@ returns c =
     let run = c.run-end in
     let wide = c.widened-bits in
     let tables = c in
-    let a = tables in
+    let a = (goal.at.returns c).Start in
     let h = a.args.held in
     let of = tables.tables_of-tables.ensures in
     let table = level_table supercode h.level _ _ _ of in
-    let sum_after : SFits w16 run.result.sum = record { sfits = run.type-inv.1.1.1.1.0.1 } in
-    let low_after : SFits w16 run.result.low = record { sfits = run.type-inv.1.1.1.1.1.1.1.0.1 } in
+    let sum_after : SFits w16 run.result.sum = record { sfits = run.type_inv.1.1.1.1.0.1 } in
+    let low_after : SFits w16 run.result.low = record { sfits = run.type_inv.1.1.1.1.1.1.1.0.1 } in
     let stands = run.ensures.1.0 in
     let same = narrowed_same run.new.0 run.new.1.0 run.new.1.1.0 c.narrowed-kept_bits.result _ _ _ stands c.narrowed-kept_bits.ensures in
     let standing = standing_same _ _ _ same _ _ (standing_at _ _ _ _ _ _ _ sum_after stands) in

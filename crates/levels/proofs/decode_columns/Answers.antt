@@ -32,7 +32,7 @@ pub loop-level-preserved : goal.loop-level-preserved
 loop-level-preserved c =
     let turn = c in
     let done = c.decode_level-out.ensures in
-    (decoding_more _ _ _ _ _ _ _ _ _ turn.loop-level.invariant.0 c.loop-level-test.true _ _ done.0 (not-false _ c.if-not-settled.false) done.1 done.2 _ (omega arith) _ (to_z-of_z (record { sfits = c.struct_told-1.given.1.1.1.1.0.1 })), done.3)
+    (decoding_more _ _ _ _ _ _ _ _ _ turn.loop-level.invariant.0 c.loop-level-test.true _ _ done.0 (not-false _ c.if-not-settled.false) done.1 done.2 _ (omega arith) _ (to_z-of_z (record { sfits = search rules })), done.3)
 
 pub returns : goal.returns
 returns c =

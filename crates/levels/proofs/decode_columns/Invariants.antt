@@ -16,7 +16,7 @@ use borrow.Author.Rules.{rules}
 use Rattle.levels.proofs.decode_columns.Given as goal
 
 abbrev pub invariant-loop-level : goal.invariant-loop-level
-invariant-loop-level l = Decoding (way_reader l.way) l.initial.work l.work l.held l.changed l.erased l.sum (to_z w16 l.low) l.level × Room l.sums l.lens l.bits
+invariant-loop-level l = Decoding (way_reader l.way) l.initial.work l.work l.held l.changed l.erased l.sum l.low l.level × Room l.sums l.lens l.bits
 
 abbrev pub decreases-loop-level : goal.decreases-loop-level
 decreases-loop-level l = 4 - l.level

@@ -44,7 +44,7 @@ returns-then-settled c =
     let t = decoded.roots.ensures.0 in
     let given = start.requires.rs_len in
     let word = settled_row_is_a_word level start.requires.level_bound.0 given.0 given.2 _ _ _ _ _ given.3 _ t _ _ _ decoded.decode-settled.ensures taken in record {
-        ended = λ rs z long read. level_settled level start.requires.level_bound.0 rs long _ _ _ _ _ read _ t _ _ _ decoded.decode-settled.ensures taken z refl _ _ _ refl refl c.changed_mark-changed.ensures c.mark_of-erased.ensures refl (to_z-of_z (record { sfits = c.struct_told-1.given.1.0.1 })) c.take_off.ensures;
+        ended = λ rs z long read. level_settled level start.requires.level_bound.0 rs long _ _ _ _ _ read _ t _ _ _ decoded.decode-settled.ensures taken z refl _ _ _ refl refl c.changed_mark-changed.ensures c.mark_of-erased.ensures refl (to_z-of_z (record { sfits = search rules })) c.take_off.ensures;
         count_value = (refl, soft_off level _ _ _ word.0 start.requires.level_bound.1 c.take_off.ensures);
       }
 

@@ -50,7 +50,7 @@ returns-in-Word c =
         value = λ s i h tables hard.
           let word = sym (asked.unsearched_word.ensures i h (λ w. (hard w).0)) ∙ told.1 in
           let with_list = word_is_of_the_list a.way.second a.way.threshold i a.soft.now told.0.0 word in
-          word_is_returned i h a.soft.now _ _ a.values.now a.way.limit s tables (choice_of a.way) told.0.0 word _ (record { sfits = c.low_of_reading.type-inv }) (λ vs of. c.low_of_reading.ensures vs (picked_agree vs _ _ of (hard with_list).1));
+          word_is_returned i h a.soft.now _ _ a.values.now a.way.limit s tables (choice_of a.way) told.0.0 word _ (record { sfits = c.low_of_reading.type_inv }) (λ vs of. c.low_of_reading.ensures vs (picked_agree vs _ _ of (hard with_list).1));
       }
 
 pub returns-in-NoWord : goal.returns-in-NoWord
@@ -59,7 +59,7 @@ returns-in-NoWord c =
     let a = start.args in
     let sought = c in
     let told = c in
-    let threshold = to_z-of_z (record { sfits = sought.threshold_of.type-inv }) ∙ sought.threshold_of.ensures in record {
+    let threshold = to_z-of_z (record { sfits = sought.threshold_of.type_inv }) ∙ sought.threshold_of.ensures in record {
         room_2 = c.search_words.ensures.room_2;
         value = λ s i h tables hard.
           column_is_searched i h a.soft.now a.left.now a.right.now _ a.way.limit s tables (choice_of a.way) (sym (told.unsearched_word.ensures i h (λ w. (hard w).0)) ∙ told.enum_told-1.given.1) _

@@ -6,7 +6,7 @@ use Rattle.list_of_two.specs.Ways.{chosen, threshold_of}
 use Rattle.list_of_two.proofs.threshold_of.Goals as goal
 
 pub returns-then-way : goal.returns-then-way
-returns-then-way c = to_z-of_z (record { sfits = c.struct_told-1.given.1.1.1.0.1 }) ∙ ap (λ (b : Bool). threshold_of (chosen b c.args.way.threshold)) (sym c.if-way.true)
+returns-then-way c = to_z-of_z (record { sfits = search rules }) ∙ ap (λ (b : Bool). threshold_of (chosen b c.args.way.threshold)) (sym c.if-way.true)
 
 pub returns : goal.returns
 returns c = ap (λ (b : Bool). threshold_of (chosen b c.args.way.threshold)) (sym c.if-way.false)

@@ -18,7 +18,7 @@ returns-in-Answered c read page done =
     let start = c in
     let told = c.outcome-1.given in
     let answer = is_answered read page _ _ _ _ done told.0.0 told.0.1.0 told.1 in (
-      answered_outcome _ _ _ _ _ _ answer _ _ _ c.totals.ensures c.totals-in-Answered.ensures (to_z-of_z (record { sfits = c.known_told-1.given.1.0.1 })),
+      answered_outcome _ _ _ _ _ _ answer _ _ _ c.totals.ensures c.totals-in-Answered.ensures (to_z-of_z (record { sfits = search rules })),
       answered_symbols _ _ _ _ _ _ answer start.args.symbols.now _ c.row_after_row.ensures,
     )
 

@@ -34,7 +34,7 @@ returns-in-Found c =
       c.reimage.ensures ∙ ap (λ (x : SearchOutcome). symbol short start.args.level (as_reading start.args.limit x)) e,
       ap (λ (x : SearchOutcome). flag (mark (as_reading start.args.limit x))) e,
       ap (λ (x : SearchOutcome). count (as_reading start.args.limit x)) e,
-      to_z-of_z (record { sfits = c.lower.type-inv }) ∙ c.lower.ensures ∙ ap₂ lower (to_z-of_z start.ranges.lowest) (to_z-of_z (record { sfits = c.known_told-1.given.1.1.0.1 })) ∙ ap (λ (x : SearchOutcome). lowest_from start.args.lowest (lows (as_reading start.args.limit x ∷ []))) e,
+      to_z-of_z (record { sfits = c.lower.type_inv }) ∙ c.lower.ensures ∙ ap₂ lower (to_z-of_z start.ranges.lowest) (to_z-of_z (record { sfits = search rules })) ∙ ap (λ (x : SearchOutcome). lowest_from start.args.lowest (lows (as_reading start.args.limit x ∷ []))) e,
     )
 
 pub returns-in-Spent : goal.returns-in-Spent

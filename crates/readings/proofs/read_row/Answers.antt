@@ -41,7 +41,7 @@ outcome_is : (found : goal.After-search_by-found invariant-loop-j decreases-loop
     → (let a = (start (turn_of found)).args in found.search_by-found.result ≡ code_outcome (searched_by (choice_of a.way) (search_of a.way.in_supercodes) short (level_values a.level) a.way.limit (get_or a.work.now (turn_of found).loop.j []) a.level))
 outcome_is found =
     let turn = turn_of found in
-    found.search_by-found.ensures.value (search_of (start turn).args.way.in_supercodes) (start turn).args.level (start turn).pre.0 (made_of turn).tables-of.ensures (hard_of turn).tables-of2.ensures.2
+    found.search_by-found.ensures.value (search_of (start turn).args.way.in_supercodes) (start turn).args.level (start turn).requires.0 (made_of turn).tables-of.ensures (hard_of turn).tables-of2.ensures.2
 
 -- it is the column's reading
 searched_is : (found : goal.After-search_by-found invariant-loop-j decreases-loop-j)
@@ -49,7 +49,7 @@ searched_is : (found : goal.After-search_by-found invariant-loop-j decreases-loo
     ≡ way_reader (start (turn_of found)).args.way (start (turn_of found)).args.level (get_or (start (turn_of found)).args.work.now (turn_of found).loop.j [])
 searched_is found =
     let a = start (turn_of found) in
-    reads_it (choice_of a.args.way) (search_of a.args.way.in_supercodes) a.args.way.limit a.args.level a.pre.0 _ found.search_by-found.result (outcome_is found)
+    reads_it (choice_of a.args.way) (search_of a.args.way.in_supercodes) a.args.way.limit a.args.level a.requires.0 _ found.search_by-found.result (outcome_is found)
 
 -- and counts at most the limit
 count_few : (turn : goal.At-loop-j invariant-loop-j decreases-loop-j)
@@ -57,7 +57,7 @@ count_few : (turn : goal.At-loop-j invariant-loop-j decreases-loop-j)
 count_few turn =
     let a = start turn in
     let way = a.args.way in
-    omega (arith, count_within_the_limit (choice_of way) (search_of way.in_supercodes) way.limit a.args.level a.pre.0 (get_or a.args.work.now turn.loop-j.j []), a.pre.1)
+    omega (arith, count_within_the_limit (choice_of way) (search_of way.in_supercodes) way.limit a.args.level a.requires.0 (get_or a.args.work.now turn.loop-j.j []), a.requires.1)
 
 pub tables_of-hard-requires : goal.tables_of-hard-requires
 tables_of-hard-requires c =
@@ -88,9 +88,9 @@ search_by-found-requires c =
     let j = turn.loop-j.j in
     let long : j < length work = omega (arith, a.pre.2.many, c.loop-j-test.true) in
     let soft = all_at (λ x. (length x ≡ 30) × Soft x) work j [] a.pre.2.soft long in record {
-        limit_bound = a.pre.1;
-        searchable30 = column_searchable (search_of a.args.way.in_supercodes) a.args.level a.pre.0 _ _ _ _ soft.0 (soft_column_lem (get_or work j []) soft) (made_of turn).tables-of.ensures;
-        by_index = (a.args.level, a.pre.0, (hard_of turn).tables-of2.ensures.2);
+        limit_bound = a.requires.1;
+        searchable30 = column_searchable (search_of a.args.way.in_supercodes) a.args.level a.requires.0 _ _ _ _ soft.0 (soft_column_lem (get_or work j []) soft) (made_of turn).tables-of.ensures;
+        by_index = (a.args.level, a.requires.0, (hard_of turn).tables-of2.ensures.2);
         room = turn.loop-j.invariant.1;
       }
 
@@ -98,7 +98,7 @@ pub enter-e-requires : goal.enter-e-requires
 enter-e-requires c =
     let a = start (turn_of c) in
     let way = a.args.way in
-    (a.pre.0, word_in_range (choice_of way) (search_of way.in_supercodes) _ a.args.level a.pre.0 _ c.search_by-found.result (outcome_is c))
+    (a.requires.0, word_in_range (choice_of way) (search_of way.in_supercodes) _ a.args.level a.requires.0 _ c.search_by-found.result (outcome_is c))
 
 pub overflow_add-sum : goal.overflow_add-sum
 overflow_add-sum c =
@@ -113,8 +113,8 @@ loop-j-preserved c =
     let j63 = found.loop-j-test.true in
     let entry = c.enter-e.ensures in
     let few : c.enter-e.result.count ≤ 2000 = omega (arith, entry.2 ∙ ap count (searched_is found), count_few turn) in
-    (one_more_read _ _ _ _ _ _ _ _ _ _ _ _ _ _ turn.loop-j.inv.0 j63 (searched_is found) entry.0 entry.1 entry.2 (to_z-of_z (record { sfits = c.struct_told-1.given.1.1.1.0.1 }) ∙ entry.3) few, found.search_by-found.ensures.room_2)
+    (one_more_read _ _ _ _ _ _ _ _ _ _ _ _ _ _ turn.loop-j.inv.0 j63 (searched_is found) entry.0 entry.1 entry.2 (to_z-of_z (record { sfits = search rules }) ∙ entry.3) few, found.search_by-found.ensures.room_2)
 
 pub returns : goal.returns
 returns c =
-    (all_read _ _ _ _ _ _ _ _ _ _ c.loop-j.invariant.0 c.loop-j-test.false (to_z-of_z (start c.before).fits.lowest), c.loop-j.invariant.1)
+    (all_read _ _ _ _ _ _ _ _ _ _ c.loop-j.invariant.0 c.loop-j-test.false (to_z-of_z (start c.before).ranges.lowest), c.loop-j.invariant.1)

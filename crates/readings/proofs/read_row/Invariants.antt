@@ -23,7 +23,7 @@ use borrow.Author.Rules.{rules}
 use Rattle.readings.proofs.read_row.Given as goal
 
 abbrev pub invariant-loop-j : goal.invariant-loop-j
-invariant-loop-j l = RowFilling l.level (way_reader l.way l.level) l.work (to_z w16 l.lowest) l.symbols l.marks l.sum (to_z w16 l.low) l.j × Room l.sums l.lens l.bits
+invariant-loop-j l = RowFilling l.level (way_reader l.way l.level) l.work l.lowest l.symbols l.marks l.sum l.low l.j × Room l.sums l.lens l.bits
 
 abbrev pub decreases-loop-j : goal.decreases-loop-j
 decreases-loop-j l = 63 - l.j

@@ -39,7 +39,7 @@ advanced st = advanced_at _ _ _ _ _ _ _ _ _ _ (record { sfits = st.struct_told-i
 pub loop-count-init : goal.loop-count-init
 loop-count-init c =
     let a = c in
-    let f : SFits w16 a.args.state.sum = record { sfits = c.struct_told-1.given.1.1.0.1 } in (
+    let f : SFits w16 a.args.state.sum = record { sfits = search rules } in (
       a.requires.room,
       standing_at _ _ _ _ _ _ _ f a.requires.standing,
       λ xs h. going_start a.args.n a.args.values.now a.args.col.now a.args.left.now a.args.right.now a.args.limit _ _ _ _ _ xs h,
@@ -50,8 +50,8 @@ advance-t-requires c =
     let i = c in
     let v = i.loop-count.invariant in
     let a = start i.before in record {
-        paths_bound = omega (arith, v.1.few, a.pre.0, i.loop-count-test.true);
-        given = a.pre.1.0;
+        paths_bound = omega (arith, v.1.few, a.requires.limit_bound, i.loop-count-test.true);
+        given = a.requires.given;
         good = v.1.good;
         room = v.0;
         heap = v.1.heap;
@@ -67,13 +67,13 @@ returns-then-l-eq0 c =
     let d = advanced st in record {
         room_2 = st.advance-t.ensures.room_2;
         standing_2 = standing_end a.args.n a.args.values.now a.args.col.now a.args.left.now a.args.right.now a.args.limit _ _ _ _ _ _ _ d v.1 c.if-l-eq0.true;
-        reached = λ vs tb xs h. reached_by a.args.n a.args.col.now a.args.left.now a.args.right.now a.args.values.now vs a.pre.1.0 tb a.args.limit _ _ _ _ _ _ xs _ _ _ _ (start_fits i.before) (low_fits i.before) (record { way = inr (inr (ended a.args.n a.args.values.now a.args.col.now a.args.left.now a.args.right.now a.args.limit _ _ _ _ _ xs _ _ _ _ _ _ i.loop-count-test.taken d (v.2 xs h) c.if-l-eq0.true)) });
+        reached = λ vs tb xs h. reached_by a.args.n a.args.col.now a.args.left.now a.args.right.now a.args.values.now vs a.requires.given tb a.args.limit _ _ _ _ _ _ xs _ _ _ _ (start_fits i.before) (low_fits i.before) (record { way = inr (inr (ended a.args.n a.args.values.now a.args.col.now a.args.left.now a.args.right.now a.args.limit _ _ _ _ _ xs _ _ _ _ _ _ i.loop-count-test.taken d (v.2 xs h) c.if-l-eq0.true)) });
       }
 
 pub overflow_add-count : goal.overflow_add-count
 overflow_add-count c =
     let i = c in
-    omega (arith, (start i.before).pre.0, i.loop-count-test.true)
+    omega (arith, (start i.before).requires.limit_bound, i.loop-count-test.true)
 
 pub returns-then-l-n : goal.returns-then-l-n
 returns-then-l-n c =
@@ -85,7 +85,7 @@ returns-then-l-n c =
     let d = advanced st in record {
         room_2 = st.advance-t.ensures.room_2;
         standing_2 = standing_next a.args.n a.args.values.now a.args.col.now a.args.left.now a.args.right.now a.args.limit _ _ _ _ _ _ _ d v.1;
-        reached = λ vs tb xs h. reached_by a.args.n a.args.col.now a.args.left.now a.args.right.now a.args.values.now vs a.pre.1.0 tb a.args.limit _ _ _ _ _ _ xs _ _ _ _ (start_fits i.before) (low_fits i.before) (record { way = inr (inl (answered_at _ _ _ _ _ _ _ _ _ _ _ _ _ (record { sfits = lo.lower-low.type-inv }) lo.lower-low.ensures (answered a.args.n a.args.values.now a.args.col.now a.args.left.now a.args.right.now a.args.limit _ _ _ _ _ xs _ _ _ _ _ _ i.loop-count-test.taken d (v.2 xs h) lo.if-l-eq0.false c.if-l-n.true))) });
+        reached = λ vs tb xs h. reached_by a.args.n a.args.col.now a.args.left.now a.args.right.now a.args.values.now vs a.requires.given tb a.args.limit _ _ _ _ _ _ xs _ _ _ _ (start_fits i.before) (low_fits i.before) (record { way = inr (inl (answered_at _ _ _ _ _ _ _ _ _ _ _ _ _ (record { sfits = lo.lower-low.type_inv }) lo.lower-low.ensures (answered a.args.n a.args.values.now a.args.col.now a.args.left.now a.args.right.now a.args.limit _ _ _ _ _ xs _ _ _ _ _ _ i.loop-count-test.taken d (v.2 xs h) lo.if-l-eq0.false c.if-l-n.true))) });
       }
 
 pub loop-count-smaller : goal.loop-count-smaller
@@ -103,7 +103,7 @@ loop-count-preserved c =
     let d = advanced st in (
       st.advance-t.ensures.room_2,
       standing_next a.args.n a.args.values.now a.args.col.now a.args.left.now a.args.right.now a.args.limit _ _ _ _ _ _ _ d v.1,
-      λ xs h. going_at _ _ _ _ _ _ _ _ _ _ _ _ _ (record { sfits = lo.lower-low.type-inv }) lo.lower-low.ensures (going_next a.args.n a.args.values.now a.args.col.now a.args.left.now a.args.right.now a.args.limit _ _ _ _ _ xs _ _ _ _ _ _ i.loop-count-test.taken d (v.2 xs h) lo.if-l-eq0.false c.if-l-n.false),
+      λ xs h. going_at _ _ _ _ _ _ _ _ _ _ _ _ _ (record { sfits = lo.lower-low.type_inv }) lo.lower-low.ensures (going_next a.args.n a.args.values.now a.args.col.now a.args.left.now a.args.right.now a.args.limit _ _ _ _ _ xs _ _ _ _ _ _ i.loop-count-test.taken d (v.2 xs h) lo.if-l-eq0.false c.if-l-n.false),
     )
 
 pub returns : goal.returns
@@ -112,5 +112,5 @@ returns c =
     let a = start c.before in record {
         room_2 = v.0;
         standing_2 = v.1;
-        reached = λ vs tb xs h. reached_by a.args.n a.args.col.now a.args.left.now a.args.right.now a.args.values.now vs a.pre.1.0 tb a.args.limit _ _ _ _ _ _ xs _ _ _ _ (start_fits c.before) (low_fits c.before) (record { way = inl ((c.loop-count-test.false, v.2 xs h)) });
+        reached = λ vs tb xs h. reached_by a.args.n a.args.col.now a.args.left.now a.args.right.now a.args.values.now vs a.requires.given tb a.args.limit _ _ _ _ _ _ xs _ _ _ _ (start_fits c.before) (low_fits c.before) (record { way = inl ((c.loop-count-test.false, v.2 xs h)) });
       }

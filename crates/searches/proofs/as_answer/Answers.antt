@@ -7,7 +7,7 @@ use borrow.Author.Rules.{rules}
 use Rattle.searches.proofs.as_answer.Goals as goal
 
 pub returns-in-Found : goal.returns-in-Found
-returns-in-Found c = found_answer _ _ _ _ c.found-1.given.1 (to_z-of_z (record { sfits = c.known_told-1.given.1.1.0.1 }))
+returns-in-Found c = found_answer _ _ _ _ c.found-1.given.1 (to_z-of_z (record { sfits = search rules }))
 
 pub returns-in-Spent : goal.returns-in-Spent
 returns-in-Spent c = sym (ap as_answer c.enum_told-1.given.1)

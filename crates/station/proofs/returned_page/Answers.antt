@@ -20,6 +20,6 @@ returns c =
     let made = copied in
     let start = c in
     let told = start.args.outcome.report in
-    let fits : SFits w16 told.low = record { sfits = made.struct_told-1.given.1.1.1.1.1.0.1 } in
+    let fits : SFits w16 told.low = record { sfits = search rules } in
     let is = report_is told _ _ _ _ _ start.requires.2 made.steps_and_totals-front.ensures copied.copy.ensures.1 written.write_marks.ensures (low_written.write_low.ensures ∙ ap low_bytes (to_z-of_z fits)) in
     (c.returned_number-2.ensures, simp (eq-eqb _ _ made.if-number-ne0.false) is)

@@ -10,14 +10,11 @@ use Rattle.chip.proofs.ShortSearch.{leading_tables}
 use Rattle.store_chip.proofs.Answers.{word_is_answered, empty_is_13, spent_is_9}
 use native.Mathlib.Omega.{arith}
 use borrow.Author.Rules.{rules}
+use Rattle.store_chip.proofs.search_allowed.Goals.{After-search_column-ended}
 use Rattle.store_chip.proofs.search_allowed.Goals as goal
 
--- what the search gives
-abbrev start : goal.After-search_column-ended → goal.Start
-start found = found.before
-
-outcome_is : (found : goal.After-search_column-ended) → found.search_column-ended.result ≡ code_outcome (chip_column (start found).args.limit (start found).args.level (start found).args.soft.now)
-outcome_is found = found.search_column-ended.ensures.by_index (start found).args.level (start found).requires.level found.tables_of-tables.ensures
+outcome_is : (found : After-search_column-ended) → found.search_column-ended.result ≡ code_outcome (chip_column found.args.limit found.args.level found.args.soft.now)
+outcome_is found = found.search_column-ended.ensures.by_index found.args.level found.requires.level found.tables_of-tables.ensures
 
 pub search_column-ended-requires : goal.search_column-ended-requires
 search_column-ended-requires c =
@@ -31,16 +28,16 @@ search_column-ended-requires c =
 
 pub returns-in-Found : goal.returns-in-Found
 returns-in-Found c =
-    let found = c in
+    let found = (goal.at.returns-in-Found c).After-search_column-ended in
     let told = c.found-1.given in
-    word_is_answered (start found).args.limit _ _ (outcome_is found) _ _ _ _ told.1 (to_z-of_z {w = w16} (record { sfits = c.known_told-1.given.1.1.0.1 }))
+    word_is_answered found.args.limit _ _ (outcome_is found) _ _ _ _ told.1 (to_z-of_z {w = w16} (record { sfits = search rules }))
 
 pub returns-then-ended-limit : goal.returns-then-ended-limit
 returns-then-ended-limit c =
-    let found = c in
-    empty_is_13 (start found).args.limit _ _ (outcome_is found) c.enum_told-1.given.1 c.if-ended-limit.true
+    let found = (goal.at.returns-then-ended-limit c).After-search_column-ended in
+    empty_is_13 found.args.limit _ _ (outcome_is found) c.enum_told-1.given.1 c.if-ended-limit.true
 
 pub returns-else-ended-limit : goal.returns-else-ended-limit
 returns-else-ended-limit c =
-    let found = c in
-    spent_is_9 (start found).args.limit _ _ (outcome_is found) c.enum_told-1.given.1 c.if-ended-limit.false
+    let found = (goal.at.returns-else-ended-limit c).After-search_column-ended in
+    spent_is_9 found.args.limit _ _ (outcome_is found) c.enum_told-1.given.1 c.if-ended-limit.false

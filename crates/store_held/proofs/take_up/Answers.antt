@@ -12,45 +12,43 @@ use Rattle.store_held.specs.Names.{ask_more}
 use Rattle.store_held.specs.Calls.{entry}
 use Rattle.store_held.proofs.Calls.{more_ready, take_16, take_refused, take_unready, take_found, take_spent}
 use borrow.Author.Rules.{rules}
+use Rattle.store_held.proofs.take_up.Goals.{In-Done}
 use Rattle.store_held.proofs.take_up.Goals as goal
 
-abbrev start : goal.In-Done → goal.Start
-start told = told.before
-
-done : (told : goal.In-Done) → (let a = (start told).args in Done ≡ ask_more (entry a.t1 a.name).limit a.limit Refused Done)
+done : (told : In-Done) → (let a = told.args in Done ≡ ask_more (entry a.t1 a.name).limit a.limit Refused Done)
 done told = sym told.enum_told-1.given.1 ∙ told.asked_for_more.ensures
 
-bounds : (told : goal.In-Done) → (let a = (start told).args in (1 ≤ (entry a.t1 a.name).limit) × (1 ≤ a.limit) × ((entry a.t1 a.name).limit + a.limit ≤ 2000))
+bounds : (told : In-Done) → (let a = told.args in (1 ≤ (entry a.t1 a.name).limit) × (1 ≤ a.limit) × ((entry a.t1 a.name).limit + a.limit ≤ 2000))
 bounds told = more_ready _ _ (done told)
 
-low : (told : goal.In-Done) → (start told).args.name < 4
+low : (told : In-Done) → told.args.name < 4
 low told = told.if-name-ge4.false
 
 pub returns-then-name-ge4 : goal.returns-then-name-ge4
 returns-then-name-ge4 c = take_16 _ _ _ c.if-name-ge4.true
 
 pub is_ready-requires : goal.is_ready-requires
-is_ready-requires c = omega (arith, (bounds c).2)
+is_ready-requires c = omega (arith, (bounds (goal.at.is_ready-requires c).In-Done).2)
 
 pub returns-then-not-is_ready : goal.returns-then-not-is_ready
 returns-then-not-is_ready c =
-    let told = c in
+    let told = (goal.at.returns-then-not-is_ready c).In-Done in
     take_unready _ _ _ (low told) (done told) (λ r. true≢false (sym (c.is_ready.ensures.1 r) ∙ not-true _ c.if-not-is_ready.true))
 
 pub overflow_add-summed : goal.overflow_add-summed
-overflow_add-summed c = let within = (bounds c.before).2 in record { fits = omega (arith, within) }
+overflow_add-summed c = let within = (bounds (goal.at.overflow_add-summed c).In-Done).2 in record { fits = omega (arith, within) }
 
 pub go_on-gone-requires : goal.go_on-gone-requires
 go_on-gone-requires c = record {
-        limit_lt_limit = (omega (arith, (bounds c.before).1), (bounds c.before).2);
+        limit_lt_limit = (omega (arith, (bounds (goal.at.go_on-gone-requires c).In-Done).1), (bounds (goal.at.go_on-gone-requires c).In-Done).2);
         ready = c.is_ready.ensures.0 (not-false _ c.if-not-is_ready.false);
       }
 
 pub offset_bounds-store-i-in-Spent : goal.offset_bounds-store-i-in-Spent
-offset_bounds-store-i-in-Spent c = let in_range = low c.before in search rules
+offset_bounds-store-i-in-Spent c = let in_range = low (goal.at.offset_bounds-store-i-in-Spent c).In-Done in search rules
 
 pub bounds-store-i-in-Spent : goal.bounds-store-i-in-Spent
-bounds-store-i-in-Spent c = low c.before
+bounds-store-i-in-Spent c = low (goal.at.bounds-store-i-in-Spent c).In-Done
 
 pub returns-in-Refused : goal.returns-in-Refused
 returns-in-Refused c =
@@ -60,13 +58,13 @@ returns-in-Refused c =
 pub returns-in-Found : goal.returns-in-Found
 returns-in-Found c =
     let went = c in
-    let told = went in
+    let told = (goal.at.returns-in-Found c).In-Done in
     let found = c.found-1.given in
     take_found _ _ _ (low told) (done told) went.go_on-gone.result went.go_on-gone.ensures _ _ _
-    (found_answer _ _ _ _ found.1 (to_z-of_z {w = w16} (record { sfits = c.known_told-in-Found-1.given.1.1.0.1 }))) c.nothing.result c.nothing.ensures
+    (found_answer _ _ _ _ found.1 (to_z-of_z {w = w16} (record { sfits = search rules }))) c.nothing.result c.nothing.ensures
 
 pub returns-in-Spent : goal.returns-in-Spent
 returns-in-Spent c =
     let went = c in
-    let told = went in
+    let told = (goal.at.returns-in-Spent c).In-Done in
     take_spent _ _ _ (low told) (done told) went.go_on-gone.result went.go_on-gone.ensures c.enum_told-in-Spent-1.given.1

@@ -8,16 +8,14 @@ use Rattle.checker.specs.Judging.{code_verdict}
 use Rattle.store_listings.specs.Listings.{named_trellis, as_answer}
 use Rattle.store_listings.proofs.Questions.{answered_as}
 use borrow.Author.Rules.{rules}
+use Rattle.store_listings.proofs.check_allowed.Goals.{After-judge_column-verdict}
 use Rattle.store_listings.proofs.check_allowed.Goals as goal
 
-abbrev start : goal.After-judge_column-verdict → goal.Start
-start said = said.before
-
 -- what the checker says
-verdict_is : (said : goal.After-judge_column-verdict)
-    → said.judge_column-verdict.result ≡ code_verdict (judged (named_trellis (search_of (start said).args.in-supercodes) (start said).args.level (start said).args.soft.now) (listing_of 30 (start said).args.lengths.now (start said).args.bits.now))
+verdict_is : (said : After-judge_column-verdict)
+    → said.judge_column-verdict.result ≡ code_verdict (judged (named_trellis (search_of said.args.in-supercodes) said.args.level said.args.soft.now) (listing_of 30 said.args.lengths.now said.args.bits.now))
 verdict_is said =
-    said.judge_column-verdict.ensures.value (search_of (start said).args.in-supercodes) (start said).args.level (start said).requires.level said.tables_of-tables.ensures
+    said.judge_column-verdict.ensures.value (search_of said.args.in-supercodes) said.args.level said.requires.level said.tables_of-tables.ensures
 
 pub judge_column-verdict-requires : goal.judge_column-verdict-requires
 judge_column-verdict-requires c =
@@ -30,7 +28,7 @@ judge_column-verdict-requires c =
       }
 
 pub returns-in-Accepted : goal.returns-in-Accepted
-returns-in-Accepted c = ap as_answer (sym c.enum_told-1.given.1) ∙ answered_as _ (verdict_is c.before)
+returns-in-Accepted c = ap as_answer (sym c.enum_told-1.given.1) ∙ answered_as _ (verdict_is (goal.at.returns-in-Accepted c).After-judge_column-verdict)
 
 pub returns-in-Wrong : goal.returns-in-Wrong
-returns-in-Wrong c = ap as_answer (sym c.verdict-1.given.1) ∙ answered_as _ (verdict_is c.before)
+returns-in-Wrong c = ap as_answer (sym c.verdict-1.given.1) ∙ answered_as _ (verdict_is (goal.at.returns-in-Wrong c).After-judge_column-verdict)

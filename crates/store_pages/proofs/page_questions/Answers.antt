@@ -11,10 +11,11 @@ use Rattle.store_pages.specs.Pages.{ask_page}
 use borrow.Author.Tests.{eq-eqb, ne_eqb, le-leb, lt-leb, not-true, not-false}
 use native.Mathlib.Omega.{arith}
 use borrow.Author.Rules.{rules}
+use Rattle.store_pages.proofs.page_questions.Goals.{After-first_above-bad}
 use Rattle.store_pages.proofs.page_questions.Goals as goal
 
 -- the questions before 5 are answered yes, so 5 decides
-up_to_the_values : (r : goal.After-first_above-bad) → let a = r.args in
+up_to_the_values : (r : After-first_above-bad) → let a = r.args in
     (b : Bool) → leb 1890 (first_above a.soft.now 7) ≡ b → ask b (Refused 5 (first_above a.soft.now 7)) Done ≡ ask_page (chosen a.second a.threshold) a.soft.now a.limit a.room Refused Done
 up_to_the_values r b values =
     let allowed = r in
@@ -56,9 +57,9 @@ pub returns-then-bad-lt1890 : goal.returns-then-bad-lt1890
 returns-then-bad-lt1890 c =
     let first = c.first_above-bad.ensures in
     let bad : c.first_above-bad.result < 1890 = omega (arith, c.if-bad-lt1890.true) in
-    ap (Refused 5) first ∙ up_to_the_values c.before false (lt-leb _ _ (subst (λ (n : ℕ). n < 1890) first bad))
+    ap (Refused 5) first ∙ up_to_the_values (goal.at.returns-then-bad-lt1890 c).After-first_above-bad false (lt-leb _ _ (subst (λ (n : ℕ). n < 1890) first bad))
 
 pub returns : goal.returns
 returns c =
     let good : 1890 ≤ c.first_above-bad.result = omega (arith, c.if-bad-lt1890.false) in
-    up_to_the_values c.before true (le-leb _ _ (subst (λ (n : ℕ). 1890 ≤ n) c.first_above-bad.ensures good))
+    up_to_the_values (goal.at.returns c).After-first_above-bad true (le-leb _ _ (subst (λ (n : ℕ). 1890 ≤ n) c.first_above-bad.ensures good))

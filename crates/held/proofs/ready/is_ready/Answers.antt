@@ -9,6 +9,7 @@ use Rattle.questions.specs.Questions.{first_above}
 use Rattle.held.proofs.Testing.{refuted, fails, good_handed, ready_range, ready_exactly}
 use native.Mathlib.Omega.{arith}
 use borrow.Author.Rules.{rules}
+use Rattle.held.proofs.ready.is_ready.Goals.{Start}
 use Rattle.held.proofs.ready.is_ready.Goals as goal
 
 -- what the types of the column and of the sum say
@@ -23,7 +24,7 @@ returns-then-held-ge4 c = refuted (λ r. omega (arith, r.level, c.if-held-ge4.tr
 
 pub returns-then-first_above-lt30 : goal.returns-then-first_above-lt30
 returns-then-first_above-lt30 c =
-    let a = c in
+    let a = (goal.at.returns-then-first_above-lt30 c).Start in
     refuted (λ r. omega (arith, ready_range a.args.held (full_of a) r, c.first_above.ensures, c.if-first_above-lt30.true))
 
 pub returns-then-held : goal.returns-then-held
@@ -31,14 +32,14 @@ returns-then-held c = refuted (λ r. omega (arith, r.standing.few, c.if-held.tru
 
 pub returns-then-not-is_good : goal.returns-then-not-is_good
 returns-then-not-is_good c =
-    let a = c in
+    let a = (goal.at.returns-then-not-is_good c).Start in
     refuted (λ r. fails (good_handed _ _ _ _ _ (fits_of a) refl c.is_good.ensures) c.if-not-is_good.true r.standing.good)
 
 pub returns : goal.returns
 returns c =
     let tested = c in
     let first = tested in
-    let a = first in
+    let a = (goal.at.returns c).Start in
     let range : 30 ≤ first_above a.args.held.column 7 = omega (arith, first.first_above.ensures, first.if-first_above-lt30.false) in
     let good = (good_handed _ _ _ _ _ (fits_of a) refl tested.is_good.ensures).0 (not-false _ tested.if-not-is_good.false) in
     ready_exactly a.args.held (full_of a) c.all_Placed.result first.if-held-ge4.false range tested.if-held.false good c.all_Placed.ensures

@@ -40,7 +40,7 @@ pub loop-k-preserved : goal.loop-k-preserved
 loop-k-preserved c =
     let t = c in
     let inv = t.loop-k.invariant in
-    (omega (arith, t.loop-k-test.true), (sum_added t).near, λ vs of. read_next _ _ vs of _ _ _ _ _ (small t) (sum_added t).is (to_z-of_z (record { sfits = c.lower-low.type-inv }) ∙ c.lower-low.ensures) (inv.2 vs of))
+    (omega (arith, t.loop-k-test.true), (sum_added t).near, λ vs of. read_next _ _ vs of _ _ _ _ _ (small t) (sum_added t).is (to_z-of_z (record { sfits = c.lower-low.type_inv }) ∙ c.lower-low.ensures) (inv.2 vs of))
 
 pub returns : goal.returns
 returns c =

@@ -15,7 +15,7 @@ use Rattle.list_of_two.proofs.hard.low_of_reading.Given as goal
 
 abbrev pub invariant-loop-k : goal.invariant-loop-k
 invariant-loop-k l =
-    (l.k ≤ 30) × (nat_abs (to_z w16 l.sum) ≤ 60 * l.k) × ((vs : Values) → Agreeing vs l.agreeing → ReadTo vs l.soft l.k (to_z w16 l.sum) (to_z w16 l.low))
+    (l.k ≤ 30) × (nat_abs l.sum ≤ 60 * l.k) × ((vs : Values) → Agreeing vs l.agreeing → ReadTo vs l.soft l.k l.sum l.low)
 
 abbrev pub decreases-loop-k : goal.decreases-loop-k
 decreases-loop-k l = 30 - l.k

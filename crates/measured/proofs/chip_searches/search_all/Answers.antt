@@ -30,8 +30,8 @@ search_column-ended-requires c =
     let from = at_loop.loop-a.a in
     let fits : from + 30 ≤ length soft = omega (arith, at_loop.loop-a.invariant.0) in
     let tables = (made_of at_loop).tables-of.ensures in record {
-        searchable30 = column_searchable supercode a.args.level a.pre.0 (take (from + 30 - from) (drop from soft)) _ _ _ (part_long soft from fits) (part_range soft from fits a.pre.1) tables;
-        leading = leading_tables a.args.level a.pre.0 _ _ _ tables;
+        searchable30 = column_searchable supercode a.args.level a.requires.level_bound (take (from + 30 - from) (drop from soft)) _ _ _ (part_long soft from fits) (part_range soft from fits a.requires.by_index) tables;
+        leading = leading_tables a.args.level a.requires.level_bound _ _ _ tables;
         places = at_loop.loop-a.invariant.2;
       }
 
@@ -46,7 +46,7 @@ loop-a-preserved c =
     let inv = at_loop.loop-a.invariant in
     let fits : from + 30 ≤ length soft = omega (arith, inv.0, turn.loop-a-test.true) in
     let whole : (from + 30) % 30 ≡ 0 = omega (arith, inv.1) in
-    let outcome = found.search_column-ended.ensures.by_index a.args.level a.pre.0 (made_of at_loop).tables-of.ensures in (
+    let outcome = found.search_column-ended.ensures.by_index a.args.level a.requires.level_bound (made_of at_loop).tables-of.ensures in (
       fits,
       whole,
       found.search_column-ended.ensures.places_2,
