@@ -51,19 +51,19 @@ asked_below ab =
 pub take_next-requires : goal.take_next-requires
 take_next-requires c =
     let a = c in record {
-        paths_bound = omega (arith, a.requires.paths_bound);
-        room = a.requires.room;
-        heap = a.requires.heap;
-        every = held_small a.args.n a.requires.given.most _ a.args.paths a.requires.every;
-      }
+      paths_bound = omega (arith, a.requires.paths_bound);
+      room = a.requires.room;
+      heap = a.requires.heap;
+      every = held_small a.args.n a.requires.given.most _ a.args.paths a.requires.every;
+    }
 
 pub returns-then-l-n : goal.returns-then-l-n
 returns-then-l-n c =
     let i = c in
     let a = i in record {
-        room_2 = c.take_next.ensures.room_2;
-        advanced = advanced_full a.args.n a.args.col.now a.args.left.now a.args.right.now a.args.values.now a.requires.given _ _ a.args.paths _ (key a.args.s a.args.l a.args.b) _ i.if-l-n.true a.requires.every c.take_next.ensures.next;
-      }
+      room_2 = c.take_next.ensures.room_2;
+      advanced = advanced_full a.args.n a.args.col.now a.args.left.now a.args.right.now a.args.values.now a.requires.given _ _ a.args.paths _ (key a.args.s a.args.l a.args.b) _ i.if-l-n.true a.requires.every c.take_next.ensures.next;
+    }
 
 pub overflow_mul-c : goal.overflow_mul-c
 overflow_mul-c c = omega (arith, double (goal.at.overflow_mul-c c).Else-l-n)
@@ -112,12 +112,12 @@ exchange-p-requires c =
     let most = a.requires.given.most in
     let kt = extended e v1.value_of.result rd.read_bit-bit.result rd.read_bit-bit.ensures.0 v1.value_of.ensures (record { sfits = v1.value_of.type_inv }) in
     let ku = extended e v2.other_value.result (1 - rd.read_bit-bit.result) (omega arith) v2.other_value.ensures (record { sfits = v2.other_value.type_inv }) in record {
-        paths_bound = omega (arith, a.requires.paths_bound);
-        room = rs.rise.ensures.room_2;
-        heap = rs.rise.ensures.heap_2;
-        every = held_small n most _ (a.args.paths + 1) (risen_held n _ _ a.args.paths _ rs.rise.ensures.by_index (subst⁻¹ (Held n) ku (held_extended e (1 - rd.read_bit-bit.result))) a.requires.every);
-        small = good_small n _ most (subst⁻¹ (Good n) kt (held_extended e rd.read_bit-bit.result).good);
-      }
+      paths_bound = omega (arith, a.requires.paths_bound);
+      room = rs.rise.ensures.room_2;
+      heap = rs.rise.ensures.heap_2;
+      every = held_small n most _ (a.args.paths + 1) (risen_held n _ _ a.args.paths _ rs.rise.ensures.by_index (subst⁻¹ (Held n) ku (held_extended e (1 - rd.read_bit-bit.result))) a.requires.every);
+      small = good_small n _ most (subst⁻¹ (Good n) kt (held_extended e rd.read_bit-bit.result).good);
+    }
 
 pub returns-then-unchecked : goal.returns-then-unchecked
 returns-then-unchecked c =
@@ -131,21 +131,21 @@ returns-then-unchecked c =
     let t = rd.read_bit-bit.result in
     let kt = extended e v1.value_of.result t rd.read_bit-bit.ensures.0 v1.value_of.ensures (record { sfits = v1.value_of.type_inv }) in
     let ku = extended e v2.other_value.result (1 - t) (omega arith) v2.other_value.ensures (record { sfits = v2.other_value.type_inv }) in record {
-        room_2 = c.exchange-p.ensures.room_2;
-        advanced = advanced_at _ _ _ _ _ _ _ _ _ _ (record { sfits = search rules })
+      room_2 = c.exchange-p.ensures.room_2;
+      advanced = advanced_at _ _ _ _ _ _ _ _ _ _ (record { sfits = search rules })
           (advanced_both a.args.n a.args.col.now a.args.left.now a.args.right.now a.args.values.now a.requires.given a.args.s a.args.l a.args.b (less e) a.requires.good _ _ a.args.paths a.requires.every
           _ t (1 - t) _ _ _ (sym un.unchecked.ensures ∙ rd.if-unchecked.true) rd.read_bit-bit.ensures.0 refl kt ku rs.rise.ensures.by_index c.exchange-p.ensures.out);
-      }
+    }
 
 pub take_next-requires-then-conflicting : goal.take_next-requires-then-conflicting
 take_next-requires-then-conflicting c =
     let e = c in
     let a = e in record {
-        paths_bound = omega (arith, a.requires.paths_bound);
-        room = a.requires.room;
-        heap = a.requires.heap;
-        every = held_small a.args.n a.requires.given.most _ a.args.paths a.requires.every;
-      }
+      paths_bound = omega (arith, a.requires.paths_bound);
+      room = a.requires.room;
+      heap = a.requires.heap;
+      every = held_small a.args.n a.requires.given.most _ a.args.paths a.requires.every;
+    }
 
 pub returns-then-conflicting : goal.returns-then-conflicting
 returns-then-conflicting c =
@@ -155,11 +155,11 @@ returns-then-conflicting c =
     let p1 = p2 in
     let e = (goal.at.returns-then-conflicting c).Else-l-n in
     let a = e in record {
-        room_2 = c.take_next-then-conflicting.ensures.room_2;
-        advanced = advanced_dead a.args.n a.args.col.now a.args.left.now a.args.right.now a.args.values.now a.requires.given a.args.s a.args.l a.args.b (less e) a.requires.good _ _ a.args.paths a.requires.every
+      room_2 = c.take_next-then-conflicting.ensures.room_2;
+      advanced = advanced_dead a.args.n a.args.col.now a.args.left.now a.args.right.now a.args.values.now a.requires.given a.args.s a.args.l a.args.b (less e) a.requires.good _ _ a.args.paths a.requires.every
           p1.parity_under-u.result p2.parity_under-v.result p1.parity_under-u.ensures.0 p2.parity_under-v.ensures.0 p1.parity_under-u.ensures.1 p2.parity_under-v.ensures.1
           _ _ (sym cf.conflicting.ensures ∙ i.if-conflicting.true) c.take_next-then-conflicting.ensures.next;
-      }
+    }
 
 pub value_of-requires-2 : goal.value_of-requires-2
 value_of-requires-2 c =
@@ -183,12 +183,12 @@ exchange-p-requires-2 c =
     let kt = extended e v3.value_of-2.result t (asked_below ab) v3.value_of-2.ensures (record { sfits = v3.value_of-2.type_inv }) in
     let n = a.args.n in
     let most = a.requires.given.most in record {
-        paths_bound = omega (arith, a.requires.paths_bound);
-        room = a.requires.room;
-        heap = a.requires.heap;
-        every = held_small n most _ a.args.paths a.requires.every;
-        small = good_small n _ most (subst⁻¹ (Good n) kt (held_extended e t).good);
-      }
+      paths_bound = omega (arith, a.requires.paths_bound);
+      room = a.requires.room;
+      heap = a.requires.heap;
+      every = held_small n most _ a.args.paths a.requires.every;
+      small = good_small n _ most (subst⁻¹ (Good n) kt (held_extended e t).good);
+    }
 
 pub returns : goal.returns
 returns c =
@@ -201,9 +201,9 @@ returns c =
     let a = e in
     let t = ab.asked_bit-bit.result in
     let kt = extended e v3.value_of-2.result t (asked_below ab) v3.value_of-2.ensures (record { sfits = v3.value_of-2.type_inv }) in record {
-        room_2 = c.exchange-p-2.ensures.room_2;
-        advanced = advanced_at _ _ _ _ _ _ _ _ _ _ (record { sfits = search rules })
+      room_2 = c.exchange-p-2.ensures.room_2;
+      advanced = advanced_at _ _ _ _ _ _ _ _ _ _ (record { sfits = search rules })
           (advanced_one a.args.n a.args.col.now a.args.left.now a.args.right.now a.args.values.now a.requires.given a.args.s a.args.l a.args.b (less e) a.requires.good _ _ a.args.paths a.requires.every
           p1.parity_under-u.result p2.parity_under-v.result p1.parity_under-u.ensures.0 p2.parity_under-v.ensures.0 p1.parity_under-u.ensures.1 p2.parity_under-v.ensures.1
           t _ _ (sym p1.unchecked.ensures ∙ p1.if-unchecked.false) (sym cf.conflicting.ensures ∙ ab.if-conflicting.false) ab.asked_bit-bit.ensures kt c.exchange-p-2.ensures.out);
-      }
+    }

@@ -1,7 +1,6 @@
 -- `extension::parity_under` meets its contract: the parity of the folded word. Assumes nothing.
 use Prim.Native.Nat.{◌/◌, ◌^◌, ◌<◌, ◌≤◌}
 use native.Mathlib.Omega.{arith}
-use borrow.Author.Rules.{rules}
 use lib.Bits.{bit_and, and_le_l}
 use Rattle.column.specs.Mask.{parity}
 use Rattle.extension.proofs.Folded.{folded_parity}

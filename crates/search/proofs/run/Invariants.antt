@@ -1,18 +1,11 @@
 -- `search::run` meets its contract. The loop's invariant: the search stands, and every run goes on from there as it does from the start. Assumes nothing.
 use Prim.Native.Nat.{◌-◌}
-use mathlib.Core.Logic.{inl, inr}
 use mathlib.Core.List.{List}
-use mir.Syntax.{w16}
-use mir.Val.{to_z, of_z, SFits}
 use Rattle.heap.specs.Holds.{Holds}
 use Rattle.trellis.specs.Keys.{Key, key}
 use Rattle.stack.specs.Places.{at, Room, Upto}
-use Rattle.extension.specs.Steps.{table_nodes, Advanced}
+use Rattle.extension.specs.Steps.{table_nodes}
 use Rattle.search.specs.Progress.{Standing, Going}
-use Rattle.extension.proofs.Advances.{advanced_at}
-use Rattle.search.proofs.Continues.{going_start, going_next, going_at, answered, answered_at, ended, standing_at, standing_next, standing_end, reached_by}
-use native.Mathlib.Omega.{arith}
-use borrow.Author.Rules.{rules}
 use Rattle.search.proofs.run.Given as goal
 
 abbrev pub invariant-loop-count : goal.invariant-loop-count

@@ -1,12 +1,11 @@
 use mathlib.Core.Path.{ap, ◌∙◌, subst⁻¹}
-use Prim.Native.Nat.{◌*◌, ◌-◌, ◌≤◌, ◌<◌}
+use Prim.Native.Nat.{◌*◌, ◌<◌}
 use native.Mathlib.Omega.{arith}
 use lib.IntN.{ℤ, pos, ◌+ℤ◌}
 use Rattle.trellis.specs.Values.{values}
 use Rattle.stack.proofs.Sums.{near_fits, sum_fits, sum_back}
 use Rattle.extension.specs.Steps.{table_of}
 use Rattle.search.proofs.Tables.{table_length, raising_fits, RaisedUpTo, none_raised, one_more_raised, all_raised}
-use borrow.Author.Rules.{rules}
 use Rattle.search.proofs.short_page.level_values.Goals as goal
 
 pub overflow_cast-rise : goal.overflow_cast-rise

@@ -1,13 +1,9 @@
 -- `search::short_page::level_values` meets its contract: the first k entries of 01's table are raised. Assumes nothing.
-use mathlib.Core.Path.{ap, ◌∙◌, subst⁻¹}
-use Prim.Native.Nat.{◌*◌, ◌-◌, ◌≤◌, ◌<◌}
-use native.Mathlib.Omega.{arith}
-use lib.IntN.{ℤ, pos, ◌+ℤ◌}
+use Prim.Native.Nat.{◌*◌, ◌-◌, ◌≤◌}
+use lib.IntN.{pos}
 use Rattle.trellis.specs.Values.{values}
-use Rattle.stack.proofs.Sums.{near_fits, sum_fits, sum_back}
 use Rattle.extension.specs.Steps.{table_of}
-use Rattle.search.proofs.Tables.{table_length, raising_fits, RaisedUpTo, none_raised, one_more_raised, all_raised}
-use borrow.Author.Rules.{rules}
+use Rattle.search.proofs.Tables.{RaisedUpTo}
 use Rattle.search.proofs.short_page.level_values.Given as goal
 
 abbrev pub invariant-loop-k : goal.invariant-loop-k

@@ -1,10 +1,6 @@
 -- `search::short_page::supercode_masks` meets its contract: the masks of the levels below the one in turn are there. Assumes nothing.
-use mathlib.Core.Path.{◌≡◌, refl, subst}
-use Prim.Native.Nat.{ℕ, ◌-◌, ◌≤◌, ◌<◌}
-use native.Mathlib.Omega.{arith}
+use Prim.Native.Nat.{◌-◌, ◌≤◌}
 use Rattle.search.specs.Outcomes.{SupercodesBelow}
-use Rattle.search.proofs.Tables.{one_level_more}
-use borrow.Author.Rules.{rules}
 use Rattle.search.proofs.short_page.supercode_masks.Given as goal
 
 abbrev pub invariant-loop-level : goal.invariant-loop-level
