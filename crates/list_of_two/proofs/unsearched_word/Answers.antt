@@ -13,10 +13,10 @@ pub checked_reading-read-requires : goal.checked_reading-read-requires
 checked_reading-read-requires c =
     let start = c in
     let some = start.requires.by_index_2 in record {
-        soft_len = start.requires.soft_len;
-        by_index = start.requires.by_index;
-        by_index_2 = (some.0, some.1, some.2 (not-false _ c.if-not-way.false));
-      }
+      soft_len = start.requires.soft_len;
+      by_index = start.requires.by_index;
+      by_index_2 = (some.0, some.1, some.2 (not-false _ c.if-not-way.false));
+    }
 
 pub returns-then-read-lt1073741824 : goal.returns-then-read-lt1073741824
 returns-then-read-lt1073741824 c =

@@ -1,11 +1,10 @@
 use mathlib.Core.Path.{refl}
-use Prim.Native.Nat.{◌+◌, ◌-◌, ◌*◌, ◌/◌, ◌≤◌}
+use Prim.Native.Nat.{◌+◌, ◌*◌, ◌/◌}
 use native.Mathlib.Nat.{not-suc-le-zero}
 use mir.Facts.{to_z-of_z}
 use Rattle.stack.proofs.Sums.{near_fits}
-use Rattle.list_of_two.proofs.Reading.{PickedTo, one_more_picked, all_picked}
+use Rattle.list_of_two.proofs.Reading.{one_more_picked, all_picked}
 use native.Mathlib.Omega.{arith}
-use borrow.Author.Rules.{rules}
 use Rattle.list_of_two.proofs.hard.agreeing_of.Goals as goal
 
 pub loop-q-init : goal.loop-q-init

@@ -1,11 +1,6 @@
-use mathlib.Core.Path.{◌≡◌}
-use Prim.Native.Nat.{ℕ, ◌-◌, ◌*◌, ◌^◌, ◌≤◌, ◌<◌}
-use Rattle.trellis.specs.Order.{number}
-use Rattle.trellis.specs.TwoWords.{hard_path}
-use Rattle.list_of_two.specs.Hard.{checked_word, ChecksFor}
+use Prim.Native.Nat.{◌<◌}
 use Rattle.list_of_two.proofs.Checked.{nothing_read, one_more_read, all_read, entry_times_bit_fits}
 use native.Mathlib.Omega.{arith}
-use borrow.Author.Rules.{rules}
 use Rattle.list_of_two.proofs.hard.checked_reading.Goals as goal
 
 pub loop-k-init : goal.loop-k-init

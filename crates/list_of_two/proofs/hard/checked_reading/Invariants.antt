@@ -4,9 +4,6 @@ use Prim.Native.Nat.{ℕ, ◌-◌, ◌*◌, ◌^◌, ◌≤◌, ◌<◌}
 use Rattle.trellis.specs.Order.{number}
 use Rattle.trellis.specs.TwoWords.{hard_path}
 use Rattle.list_of_two.specs.Hard.{checked_word, ChecksFor}
-use Rattle.list_of_two.proofs.Checked.{nothing_read, one_more_read, all_read, entry_times_bit_fits}
-use native.Mathlib.Omega.{arith}
-use borrow.Author.Rules.{rules}
 use Rattle.list_of_two.proofs.hard.checked_reading.Given as goal
 
 abbrev pub invariant-loop-k : goal.invariant-loop-k

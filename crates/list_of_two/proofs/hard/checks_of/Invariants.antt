@@ -1,11 +1,6 @@
 -- `list_of_two::hard::checks_of` meets its contract: one entry a turn of the loop, from the last. Assumes nothing.
-use mathlib.Core.Path.{refl, ap₂, ◌∙◌, subst⁻¹}
-use Prim.Native.Nat.{ℕ, ◌+◌, ◌*◌, ◌^◌, ◌≤◌, ◌<◌}
-use Rattle.poly.specs.Polynomial.{remainder}
-use Rattle.column.proofs.Short.{level_degree, level_room}
-use Rattle.list_of_two.proofs.Checked.{MadeFrom, made_below, twice_below, none_made, one_more_made, all_made}
-use native.Mathlib.Omega.{arith}
-use borrow.Author.Rules.{rules}
+use Prim.Native.Nat.{◌≤◌, ◌<◌}
+use Rattle.list_of_two.proofs.Checked.{MadeFrom}
 use Rattle.list_of_two.proofs.hard.checks_of.Given as goal
 
 abbrev pub invariant-loop-k : goal.invariant-loop-k
