@@ -5,8 +5,7 @@ use Rattle.census.proofs.count_patterns.Goals as goal
 
 pub count_from-requires : goal.count_from-requires
 count_from-requires c =
-    let start = c in
-    (start.requires.0, start.requires.1, unflipped start.args.level start.requires.2)
+    (c.requires.0, c.requires.1, unflipped c.args.level c.requires.2)
 
 pub returns : goal.returns
 returns c =

@@ -6,8 +6,7 @@ use Rattle.census.proofs.search_one.Goals as goal
 
 pub search_supercodes-requires : goal.search_supercodes-requires
 search_supercodes-requires c =
-    let start = c in
-    (start.requires.0, start.requires.1, allowed_with start.requires.2 (omega arith) (omega arith))
+    (c.requires.0, c.requires.1, allowed_with c.requires.2 (omega arith) (omega arith))
 
 pub returns-then-word-eq0 : goal.returns-then-word-eq0
 returns-then-word-eq0 c =

@@ -6,5 +6,4 @@ use Rattle.chip_entries.proofs.entry_decode_page_chip.Goals as goal
 
 pub returns : goal.returns
 returns c =
-    let call = c in
-    record { outcome = _; decoded = call.decode_page_chip-decoded.ensures; told = ap (λ (r : PageReply). record { page = r; pushed = call.decode_page_chip-decoded.result.pushed }) c.numbers_of_page.ensures }
+    record { outcome = _; decoded = c.decode_page_chip-decoded.ensures; told = ap (λ (r : PageReply). record { page = r; pushed = c.decode_page_chip-decoded.result.pushed }) c.numbers_of_page.ensures }

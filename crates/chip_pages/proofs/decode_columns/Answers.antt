@@ -53,56 +53,48 @@ loop-level-init c = (decoding_none _ _ _ _ _ c.requires.1 c.requires.2 c.require
 
 pub read_row-read-requires : goal.read_row-read-requires
 read_row-read-requires c =
-    let turn = c in
-    (c.loop-level-test.true, turn.requires.0, turn.loop-level.invariant.0.soft, turn.loop-level.invariant.2, turn.loop-level.invariant.3)
+    (c.loop-level-test.true, c.requires.0, c.loop-level.invariant.0.soft, c.loop-level.invariant.2, c.loop-level.invariant.3)
 
 pub settle_level-out-requires : goal.settle_level-out-requires
 settle_level-out-requires c =
-    let read = c in
-    let turn = read in
-    let limit = turn.args.limit in
-    let level = turn.loop-level.level in
-    let here = read.loop-level-test.true in
-    let given = read.read_row-read.ensures.0 in record {
-        level_bound = (here, turn.loop-level.invariant.0.soft, read_symbols limit (chip_reader limit) (chip_reads_words limit) level here turn.loop-level.work _ _ _ _ _ given);
-        rs_len = (map (chip_reader limit level) turn.loop-level.work, _, length-map turn.loop-level.work (chip_reader limit level) ∙ turn.loop-level.invariant.0.soft.many, read_handed_on _ _ _ _ _ _ _ (fits_of c) given);
+    let limit = c.args.limit in
+    let level = c.loop-level.level in
+    let here = c.loop-level-test.true in
+    let given = c.read_row-read.ensures.0 in record {
+        level_bound = (here, c.loop-level.invariant.0.soft, read_symbols limit (chip_reader limit) (chip_reads_words limit) level here c.loop-level.work _ _ _ _ _ given);
+        rs_len = (map (chip_reader limit level) c.loop-level.work, _, length-map c.loop-level.work (chip_reader limit level) ∙ c.loop-level.invariant.0.soft.many, read_handed_on _ _ _ _ _ _ _ (fits_of c) given);
       }
 
 pub returns-then-not-settled : goal.returns-then-not-settled
 returns-then-not-settled c =
-    let out = c in
-    let turn = turn_of out.before in
-    let here = (read_of out.before).before.loop-test.taken in
-    let unsettled = not-true _ c.if-not-settled.true in (
-      decoding_refused _ _ _ _ _ _ _ _ _ turn.loop-level.inv.0 here _ _ (done_of out) unsettled _ _ _,
-      all_levels_of_a_stop _ _ _ turn.loop-level.level here (stop _ _ _ _ _ _ _ _ _ turn.loop-level.inv.0 here _ _ (done_of out) unsettled) _ (pushed_of out.before),
+    let turn = turn_of c.before in
+    let here = (read_of c.before).before.loop-test.taken in
+    let unsettled = c.if-not-settled.true in (
+      decoding_refused _ _ _ _ _ _ _ _ _ turn.loop-level.inv.0 here _ _ (done_of c) unsettled _ _ _,
+      all_levels_of_a_stop _ _ _ turn.loop-level.level here (stop _ _ _ _ _ _ _ _ _ turn.loop-level.inv.0 here _ _ (done_of c) unsettled) _ (pushed_of c.before),
     )
 
 pub overflow_add-sum : goal.overflow_add-sum
 overflow_add-sum c =
-    let out = c in
-    let turn = turn_of out.before in
-    record { fits = omega (arith, turn.loop-level.inv.0.few, out.settle_level-out.ensures.count_value.0, (read_of out.before).read-row.ensures.0.few, (read_of out.before).before.loop-test.taken) }
+    let turn = turn_of c.before in
+    record { fits = omega (arith, turn.loop-level.inv.0.few, c.settle_level-out.ensures.count_value.0, (read_of c.before).read-row.ensures.0.few, (read_of c.before).before.loop-test.taken) }
 
 pub loop-level-preserved : goal.loop-level-preserved
 loop-level-preserved c =
-    let out = c in
-    let turn = turn_of out.before in
-    let here = (read_of out.before).before.loop-test.taken in
-    let given = out.settle_level-out.ensures.count_value in
-    let few = subst (λ (n : ℕ). n ≤ 126000) (sym given.0) (read_of out.before).read-row.ensures.0.few in
-    let longs = as_many _ _ _ _ _ _ _ (length-map turn.loop-level.work (chip_reader turn.args.limit turn.loop-level.level) ∙ turn.loop-level.inv.0.soft.many) (read_of out.before).read-row.ensures.0 in (
-      decoding_more _ _ _ _ _ _ _ _ _ turn.loop-level.inv.0 here _ _ (done_of out) (not-false _ c.if-not-settled.false) few given.1 _ (omega arith) _ (to_z-of_z (record { sfits = search rules })),
-      pushed_of out.before ∙ ap (some_below short short_outer (chip_reader turn.args.limit) turn.args.work.now (λ i c. (chip_column turn.args.limit i c).any_pushed_out)) (sym (add-one turn.loop-level.level)),
+    let turn = turn_of c.before in
+    let here = (read_of c.before).before.loop-test.taken in
+    let given = c.settle_level-out.ensures.count_value in
+    let few = subst (λ (n : ℕ). n ≤ 126000) (sym given.0) (read_of c.before).read-row.ensures.0.few in
+    let longs = as_many _ _ _ _ _ _ _ (length-map turn.loop-level.work (chip_reader turn.args.limit turn.loop-level.level) ∙ turn.loop-level.inv.0.soft.many) (read_of c.before).read-row.ensures.0 in (
+      decoding_more _ _ _ _ _ _ _ _ _ turn.loop-level.inv.0 here _ _ (done_of c) c.if-not-settled.false few given.1 _ (omega arith) _ (to_z-of_z (record { sfits = search rules })),
+      pushed_of c.before ∙ ap (some_below short short_outer (chip_reader turn.args.limit) turn.args.work.now (λ i c. (chip_column turn.args.limit i c).any_pushed_out)) (sym (add-one turn.loop-level.level)),
       longs.0,
       longs.1,
     )
 
 pub returns : goal.returns
 returns c =
-    let turn = c in
-    let start = turn in
-    let last : turn.loop-level.level ≡ 4 = omega (arith, turn.loop-level.invariant.0.within, c.loop-level-test.false) in (
-      decoding_answered _ _ _ _ _ _ _ _ _ turn.loop-level.invariant.0 c.loop-level-test.false (short_page_low_from start.args.limit _ (chip_reads_words start.args.limit) _ start.requires.1.many),
-      turn.loop-level.invariant.1 ∙ ap (some_below short short_outer (chip_reader start.args.limit) start.args.work.now (λ i c. (chip_column start.args.limit i c).any_pushed_out)) last,
+    let last : c.loop-level.level ≡ 4 = omega (arith, c.loop-level.invariant.0.within, c.loop-level-test.false) in (
+      decoding_answered _ _ _ _ _ _ _ _ _ c.loop-level.invariant.0 c.loop-level-test.false (short_page_low_from c.args.limit _ (chip_reads_words c.args.limit) _ c.requires.1.many),
+      c.loop-level.invariant.1 ∙ ap (some_below short short_outer (chip_reader c.args.limit) c.args.work.now (λ i c. (chip_column c.args.limit i c).any_pushed_out)) last,
     )

@@ -37,8 +37,7 @@ pushed_is told = (decoding_of told).decode-columns.ensures.1 ∙ ap (chip_pushed
 
 pub decode_columns-read-requires : goal.decode_columns-read-requires
 decode_columns-read-requires c =
-    let start = c in
-    (start.requires.2, soft_columns_lem _ _ start.requires.0 start.requires.1 c.load.ensures, refl, refl, refl)
+    (c.requires.2, soft_columns_lem _ _ c.requires.0 c.requires.1 c.load.ensures, refl, refl, refl)
 
 pub pack-requires : goal.pack-requires
 pack-requires c =

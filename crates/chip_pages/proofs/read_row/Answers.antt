@@ -52,28 +52,25 @@ count_few turn = let a = start turn in omega (arith, count_within_the_limit a.ar
 
 pub loop-j-init : goal.loop-j-init
 loop-j-init c =
-    let start = c in
-    (nothing_read _ _ _ _ _ _ _ start.requires.2.many start.requires.3 start.requires.4 refl, none_yet _ start.args.work.now, record { sums = refl; lens = refl; bits = refl })
+    (nothing_read _ _ _ _ _ _ _ c.requires.2.many c.requires.3 c.requires.4 refl, none_yet _ c.args.work.now, record { sums = refl; lens = refl; bits = refl })
 
 pub slice_bounds-search_column-end : goal.slice_bounds-search_column-end
 slice_bounds-search_column-end c =
-    let turn = c in
-    let a = start turn in
-    let long : turn.loop-j.j < length a.args.work.now = omega (arith, a.pre.2.many, c.loop-j-test.true) in
-    sym (all_at (λ x. (length x ≡ 30) × Soft x) a.args.work.now turn.loop-j.j [] a.pre.2.soft long).0
+    let a = start c in
+    let long : c.loop-j.j < length a.args.work.now = omega (arith, a.pre.2.many, c.loop-j-test.true) in
+    sym (all_at (λ x. (length x ≡ 30) × Soft x) a.args.work.now c.loop-j.j [] a.pre.2.soft long).0
 
 pub search_column-ended-requires : goal.search_column-ended-requires
 search_column-ended-requires c =
-    let turn = c in
-    let a = start turn in
+    let a = start c in
     let work = a.args.work.now in
-    let j = turn.loop-j.j in
+    let j = c.loop-j.j in
     let long : j < length work = omega (arith, a.pre.2.many, c.loop-j-test.true) in
     let soft = all_at (λ x. (length x ≡ 30) × Soft x) work j [] a.pre.2.soft long in
-    let tables = (made_of turn).tables-of.ensures in record {
+    let tables = (made_of c).tables-of.ensures in record {
         searchable30 = column_searchable supercode a.args.level a.requires.0 _ _ _ _ soft.0 (soft_column_lem (get_or work j []) soft) tables;
         leading = leading_tables a.args.level a.requires.0 _ _ _ tables;
-        places = turn.loop-j.invariant.2;
+        places = c.loop-j.invariant.2;
       }
 
 pub enter-e-requires : goal.enter-e-requires
@@ -81,28 +78,25 @@ enter-e-requires c = let a = start (turn_of c) in (a.requires.0, word_in_range a
 
 pub overflow_add-sum : goal.overflow_add-sum
 overflow_add-sum c =
-    let found = c in
-    let j63 = found.loop-j-test.true in
-    record { fits = omega (arith, c.enter-e.ensures.2 ∙ ap count (searched_is found), count_few (turn_of found), (turn_of found).loop.invariant.0.few, j63) }
+    let j63 = c.loop-j-test.true in
+    record { fits = omega (arith, c.enter-e.ensures.2 ∙ ap count (searched_is c), count_few (turn_of c), (turn_of c).loop.invariant.0.few, j63) }
 
 pub loop-j-preserved : goal.loop-j-preserved
 loop-j-preserved c =
-    let found = c in
-    let turn = turn_of found in
+    let turn = turn_of c in
     let a = start turn in
-    let j63 = found.loop-j-test.true in
+    let j63 = c.loop-j-test.true in
     let entry = c.enter-e.ensures in
-    let few : c.enter-e.result.count ≤ 2000 = omega (arith, entry.2 ∙ ap count (searched_is found), count_few turn) in
+    let few : c.enter-e.result.count ≤ 2000 = omega (arith, entry.2 ∙ ap count (searched_is c), count_few turn) in
     let long : turn.loop-j.j < length a.args.work.now = omega (arith, a.pre.2.many, j63) in (
-      one_more_read _ _ _ _ _ _ _ _ _ _ _ _ _ _ turn.loop-j.inv.0 j63 (searched_is found) entry.0 entry.1 entry.2 (to_z-of_z (record { sfits = search rules }) ∙ entry.3) few,
-      c.either-pushed.ensures ∙ ap₂ ◌||◌ turn.loop-j.inv.1 (pushes_it a.args.limit a.args.level a.requires.0 _ _ (outcome_is found)) ∙ sym (one_more (λ c. (chip_column a.args.limit a.args.level c).any_pushed_out) a.args.work.now turn.loop-j.j long),
-      found.search_column-ended.ensures.places_2,
+      one_more_read _ _ _ _ _ _ _ _ _ _ _ _ _ _ turn.loop-j.inv.0 j63 (searched_is c) entry.0 entry.1 entry.2 (to_z-of_z (record { sfits = search rules }) ∙ entry.3) few,
+      c.either-pushed.ensures ∙ ap₂ ◌||◌ turn.loop-j.inv.1 (pushes_it a.args.limit a.args.level a.requires.0 _ _ (outcome_is c)) ∙ sym (one_more (λ c. (chip_column a.args.limit a.args.level c).any_pushed_out) a.args.work.now turn.loop-j.j long),
+      c.search_column-ended.ensures.places_2,
     )
 
 pub returns : goal.returns
 returns c =
-    let turn = c in
-    let a = start turn in (
-      all_read _ _ _ _ _ _ _ _ _ _ turn.loop-j.invariant.0 c.loop-j-test.false (to_z-of_z a.ranges.lowest),
-      turn.loop-j.invariant.1 ∙ all_of _ a.args.work.now turn.loop-j.j (omega (arith, a.pre.2.many, c.loop-j-test.false)),
+    let a = start c in (
+      all_read _ _ _ _ _ _ _ _ _ _ c.loop-j.invariant.0 c.loop-j-test.false (to_z-of_z a.ranges.lowest),
+      c.loop-j.invariant.1 ∙ all_of _ a.args.work.now c.loop-j.j (omega (arith, a.pre.2.many, c.loop-j-test.false)),
     )

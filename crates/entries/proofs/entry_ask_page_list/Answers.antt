@@ -7,6 +7,4 @@ use Rattle.entries.proofs.entry_ask_page_list.Goals as goal
 
 pub returns : goal.returns
 returns c =
-    let call = c in
-    let start = call in
-    record { outcome = _; filled = as_handed_on true start.args.threshold start.ranges.threshold supercode call.ask_page_list.ensures; told = c.numbers_of_page.ensures }
+    record { outcome = _; filled = as_handed_on true c.args.threshold c.ranges.threshold supercode c.ask_page_list.ensures; told = c.numbers_of_page.ensures }

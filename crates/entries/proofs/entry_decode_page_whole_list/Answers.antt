@@ -7,6 +7,4 @@ use Rattle.entries.proofs.entry_decode_page_whole_list.Goals as goal
 
 pub returns : goal.returns
 returns c =
-    let call = c in
-    let start = call in
-    record { outcome = _; filled = as_handed_on true start.args.threshold start.ranges.threshold whole call.decode_page_whole_list.ensures; told = c.numbers_of_page.ensures }
+    record { outcome = _; filled = as_handed_on true c.args.threshold c.ranges.threshold whole c.decode_page_whole_list.ensures; told = c.numbers_of_page.ensures }

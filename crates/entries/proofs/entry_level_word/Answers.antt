@@ -5,4 +5,4 @@ use borrow.Author.Rules.{rules}
 use Rattle.entries.proofs.entry_level_word.Goals as goal
 
 pub returns : goal.returns
-returns c = c.Numbers-of.ensures ∙ ap told_of c.level_word.ensures.answer
+returns c = c.numbers_of.ensures ∙ ap told_of c.level_word.ensures.answer

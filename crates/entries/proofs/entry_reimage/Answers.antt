@@ -5,4 +5,4 @@ use borrow.Author.Rules.{rules}
 use Rattle.entries.proofs.entry_reimage.Goals as goal
 
 pub returns : goal.returns
-returns c = c.Numbers-of.ensures ∙ ap told_of c.reimage.ensures.answer
+returns c = c.numbers_of.ensures ∙ ap told_of c.reimage.ensures.answer

@@ -11,6 +11,5 @@ use Rattle.entries.proofs.entry_search_supercode_list.Goals as goal
 
 pub returns : goal.returns
 returns c =
-    let start = c in
     c.numbers_of_search.ensures ∙ ap found_of c.search_supercode_list.ensures.answer
-    ∙ ap (λ (choice : Choice). found_of (search_answer choice supercode start.args.level start.args.soft.now start.args.limit)) (handed_on true start.args.threshold start.ranges.threshold)
+    ∙ ap (λ (choice : Choice). found_of (search_answer choice supercode c.args.level c.args.soft.now c.args.limit)) (handed_on true c.args.threshold c.ranges.threshold)

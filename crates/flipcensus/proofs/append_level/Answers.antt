@@ -17,26 +17,20 @@ loop-ones-init c = (omega arith, c.requires.0, appended_none _ _)
 
 pub count_patterns-t-requires : goal.count_patterns-t-requires
 count_patterns-t-requires c =
-    let turn = c in
-    let start = turn in
-    (turn.loop-ones.invariant.1, start.requires.1, start.requires.2)
+    (c.loop-ones.invariant.1, c.requires.1, c.requires.2)
 
 pub append_census-end-requires : goal.append_census-end-requires
 append_census-end-requires c =
-    let turn = c in
-    let done = turn.loop-ones.invariant.2 in
-    omega (arith, done.reach, done.size, turn.requires.3, c.loop-ones-test.true)
+    let done = c.loop-ones.invariant.2 in
+    omega (arith, done.reach, done.size, c.requires.3, c.loop-ones-test.true)
 
 pub loop-ones-preserved : goal.loop-ones-preserved
 unfolding level_text line_of
 loop-ones-preserved c =
-    let counted = c in
-    let test = counted in
-    let turn = test in
-    let level = turn.args.level in
-    let ones = turn.loop-ones.ones in
-    let line = ap (λ (t : Totals). level_text level ones ++ census_line level ones t.zero t.other t.spent) (sym counted.count_patterns-t.ensures.value) in
-    (omega (arith, test.loop-ones-test.true), counted.count_patterns-t.ensures.room, one_line_more (level_text level) 133 ones line turn.loop-ones.invariant.2 c.append_census-end.ensures)
+    let level = c.args.level in
+    let ones = c.loop-ones.ones in
+    let line = ap (λ (t : Totals). level_text level ones ++ census_line level ones t.zero t.other t.spent) (sym c.count_patterns-t.ensures.value) in
+    (omega (arith, c.loop-ones-test.true), c.count_patterns-t.ensures.room, one_line_more (level_text level) 133 ones line c.loop-ones.invariant.2 c.append_census-end.ensures)
 
 pub shape_of-out : goal.shape_of-out
 shape_of-out c = c.loop-ones.invariant.2.size

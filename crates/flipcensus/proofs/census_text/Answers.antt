@@ -14,18 +14,16 @@ loop-level-init c = (omega arith, record { sums = refl; lens = refl; bits = refl
 
 pub append_level-end-requires : goal.append_level-end-requires
 append_level-end-requires c =
-    let turn = c in
-    let done = turn.loop-level.invariant.2 in
+    let done = c.loop-level.invariant.2 in
     let below = c.loop-level-test.true in
-    (turn.loop-level.invariant.1, turn.supercode_masks-masks.ensures, omega (arith, below), omega (arith, done.reach, done.size, turn.requires, below))
+    (c.loop-level.invariant.1, c.supercode_masks-masks.ensures, omega (arith, below), omega (arith, done.reach, done.size, c.requires, below))
 
 pub loop-level-preserved : goal.loop-level-preserved
 unfolding text_below
 loop-level-preserved c =
     let lines = c.append_level-end.ensures in
-    let turn = c in
     let below = c.loop-level-test.true in
-    (omega (arith, below), lines.0, one_line_more text_below 532 turn.loop-level.level refl turn.loop-level.invariant.2 lines.1)
+    (omega (arith, below), lines.0, one_line_more text_below 532 c.loop-level.level refl c.loop-level.invariant.2 lines.1)
 
 pub shape_of-out : goal.shape_of-out
 shape_of-out c = c.loop-level.invariant.2.size

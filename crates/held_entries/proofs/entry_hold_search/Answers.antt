@@ -6,5 +6,4 @@ use Rattle.held_entries.proofs.entry_hold_search.Goals as goal
 
 pub returns : goal.returns
 returns c =
-    let call = c in
-    record { outcome = _; call = call.hold_search-outcome.ensures; told = ap (λ (r : Found). record { found = r; store = call.hold_search-outcome.result.store }) c.numbers_of_search.ensures }
+    record { outcome = _; call = c.hold_search-outcome.ensures; told = ap (λ (r : Found). record { found = r; store = c.hold_search-outcome.result.store }) c.numbers_of_search.ensures }

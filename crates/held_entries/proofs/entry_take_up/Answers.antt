@@ -6,5 +6,4 @@ use Rattle.held_entries.proofs.entry_take_up.Goals as goal
 
 pub returns : goal.returns
 returns c =
-    let call = c in
-    record { outcome = _; call = call.take_up-outcome.ensures; told = ap (λ (r : Found). record { found = r; store = call.take_up-outcome.result.store }) c.numbers_of_search.ensures }
+    record { outcome = _; call = c.take_up-outcome.ensures; told = ap (λ (r : Found). record { found = r; store = c.take_up-outcome.result.store }) c.numbers_of_search.ensures }

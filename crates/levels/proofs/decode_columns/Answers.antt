@@ -19,22 +19,17 @@ loop-level-init c = (decoding_none _ _ _ _ _ c.requires.1 c.requires.3 c.require
 
 pub decode_level-out-requires : goal.decode_level-out-requires
 decode_level-out-requires c =
-    let turn = c in
-    let start = turn in
-    (c.loop-level-test.true, start.requires.0, turn.loop-level.invariant.0.soft, turn.loop-level.invariant.1)
+    (c.loop-level-test.true, c.requires.0, c.loop-level.invariant.0.soft, c.loop-level.invariant.1)
 
 pub returns-then-not-settled : goal.returns-then-not-settled
 returns-then-not-settled c =
-    let turn = c in
-    decoding_refused _ _ _ _ _ _ _ _ _ turn.loop-level.invariant.0 c.loop-level-test.true _ _ c.decode_level-out.ensures.0 (not-true _ c.if-not-settled.true) _ _ _
+    decoding_refused _ _ _ _ _ _ _ _ _ c.loop-level.invariant.0 c.loop-level-test.true _ _ c.decode_level-out.ensures.0 c.if-not-settled.true _ _ _
 
 pub loop-level-preserved : goal.loop-level-preserved
 loop-level-preserved c =
-    let turn = c in
     let done = c.decode_level-out.ensures in
-    (decoding_more _ _ _ _ _ _ _ _ _ turn.loop-level.invariant.0 c.loop-level-test.true _ _ done.0 (not-false _ c.if-not-settled.false) done.1 done.2 _ (omega arith) _ (to_z-of_z (record { sfits = search rules })), done.3)
+    (decoding_more _ _ _ _ _ _ _ _ _ c.loop-level.invariant.0 c.loop-level-test.true _ _ done.0 c.if-not-settled.false done.1 done.2 _ (omega arith) _ (to_z-of_z (record { sfits = search rules })), done.3)
 
 pub returns : goal.returns
 returns c =
-    let a = c in
-    decoding_answered _ _ _ _ _ _ _ _ _ c.loop-level.invariant.0 c.loop-level-test.false (short_page_low_from a.args.way.limit _ (short_readers_read_words (choice_of a.args.way) (search_of a.args.way.in_supercodes) a.args.way.limit) _ a.requires.1.many)
+    decoding_answered _ _ _ _ _ _ _ _ _ c.loop-level.invariant.0 c.loop-level-test.false (short_page_low_from c.args.way.limit _ (short_readers_read_words (choice_of c.args.way) (search_of c.args.way.in_supercodes) c.args.way.limit) _ c.requires.1.many)

@@ -14,23 +14,19 @@ use Rattle.levels.proofs.decode_level.Goals as goal
 
 pub settle_level-requires : goal.settle_level-requires
 settle_level-requires c =
-    let read = c in
-    let start = read in
-    let way = start.args.way in
+    let way = c.args.way in
     let reads = short_readers_read_words (choice_of way) (search_of way.in_supercodes) way.limit in record {
-        level_bound = (start.requires.0, start.requires.2, read_symbols way.limit (way_reader way) reads start.args.level start.requires.0 start.args.work.now _ _ _ _ _ read.read_row-read.ensures.0);
-        rs_len = (map (way_reader way start.args.level) start.args.work.now, _, length-map start.args.work.now (way_reader way start.args.level) ∙ start.requires.2.many, read.read_row-read.ensures.0);
+        level_bound = (c.requires.0, c.requires.2, read_symbols way.limit (way_reader way) reads c.args.level c.requires.0 c.args.work.now _ _ _ _ _ c.read_row-read.ensures.0);
+        rs_len = (map (way_reader way c.args.level) c.args.work.now, _, length-map c.args.work.now (way_reader way c.args.level) ∙ c.requires.2.many, c.read_row-read.ensures.0);
       }
 
 pub returns : goal.returns
 returns c =
-    let read = c in
-    let start = read in
-    let way = start.args.way in
+    let way = c.args.way in
     let given = c.settle_level.ensures in (
-      level_done (way_reader way) start.args.level _ _ start.args.work.now _ _ (to_z-of_z start.ranges.lowest)
-          (given.0 (map (way_reader way start.args.level) start.args.work.now) _ (length-map start.args.work.now (way_reader way start.args.level) ∙ start.requires.2.many) read.read_row-read.ensures.0),
-      subst (λ (n : ℕ). n ≤ 126000) (sym given.1.0) read.read_row-read.ensures.0.few,
+      level_done (way_reader way) c.args.level _ _ c.args.work.now _ _ (to_z-of_z c.ranges.lowest)
+          (given.0 (map (way_reader way c.args.level) c.args.work.now) _ (length-map c.args.work.now (way_reader way c.args.level) ∙ c.requires.2.many) c.read_row-read.ensures.0),
+      subst (λ (n : ℕ). n ≤ 126000) (sym given.1.0) c.read_row-read.ensures.0.few,
       given.1.1,
-      read.read_row-read.ensures.1,
+      c.read_row-read.ensures.1,
     )

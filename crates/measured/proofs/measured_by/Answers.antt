@@ -21,63 +21,45 @@ returns-then-limit-gt2000 c = simp (lt-ltb _ _ c.if-level-ge4.false, lt-leb _ _ 
 
 pub returns-then-not-threshold_allowed : goal.returns-then-not-threshold_allowed
 returns-then-not-threshold_allowed c =
-    let start = c in
-    let no = allowed_is start.args.second start.args.threshold start.ranges.threshold c.threshold_allowed.ensures ∙ not-true _ c.if-not-threshold_allowed.true in
+    let no = allowed_is c.args.second c.args.threshold c.ranges.threshold c.threshold_allowed.ensures ∙ c.if-not-threshold_allowed.true in
     simp (lt-ltb _ _ c.if-level-ge4.false, le-leb _ _ c.if-limit-gt2000.false, no)
 
 pub returns-then-first_above-soft : goal.returns-then-first_above-soft
 returns-then-first_above-soft c =
-    let told = c in
-    let allowed = told in
-    let start = allowed in
-    let soft = start.args.soft.now in
-    let in_range = allowed_is start.args.second start.args.threshold start.ranges.threshold allowed.threshold_allowed.ensures ∙ not-false _ allowed.if-not-threshold_allowed.false in
-    let bad : first_above soft 7 < length soft = subst (λ (t : ℕ). t < length soft) told.first_above.ensures c.if-first_above-soft.true in
-    simp (lt-ltb _ _ allowed.if-level-ge4.false, le-leb _ _ allowed.if-limit-gt2000.false, in_range, lt-leb _ _ bad)
+    let soft = c.args.soft.now in
+    let in_range = allowed_is c.args.second c.args.threshold c.ranges.threshold c.threshold_allowed.ensures ∙ c.if-not-threshold_allowed.false in
+    let bad : first_above soft 7 < length soft = subst (λ (t : ℕ). t < length soft) c.first_above.ensures c.if-first_above-soft.true in
+    simp (lt-ltb _ _ c.if-level-ge4.false, le-leb _ _ c.if-limit-gt2000.false, in_range, lt-leb _ _ bad)
 
 pub tables_of-hard-requires : goal.tables_of-hard-requires
 tables_of-hard-requires c =
-    let made = c in
-    let level = made.if-level-ge4.false in record {
+    let level = c.if-level-ge4.false in record {
         level_bound = level;
-        by_index = level_table_near _ _ level _ _ _ made.tables_of-tables.ensures;
+        by_index = level_table_near _ _ level _ _ _ c.tables_of-tables.ensures;
       }
 
 pub way_of-way-requires : goal.way_of-way-requires
 way_of-way-requires c =
-    let allowed = c in
-    sym allowed.threshold_allowed.ensures ∙ not-false _ allowed.if-not-threshold_allowed.false
+    sym c.threshold_allowed.ensures ∙ c.if-not-threshold_allowed.false
 
 pub search_all-requires : goal.search_all-requires
 search_all-requires c =
-    let way = c in
-    let hard = way in
-    let made = hard in
-    let good = made in
-    let told = good in
-    let allowed = told in
-    let start = allowed in
+    let start = c in
     let soft = start.args.soft.now in
-    let level = allowed.if-level-ge4.false in
-    let values : length soft ≤ first_above soft 7 = subst (λ (t : ℕ). length soft ≤ t) told.first_above.ensures good.if-first_above-soft.false in record {
-        limit_bound = subst⁻¹ (λ (l : ℕ). l ≤ 2000) way.Way-of.ensures.0.0 allowed.if-limit-gt2000.false;
+    let level = c.if-level-ge4.false in
+    let values : length soft ≤ first_above soft 7 = subst (λ (t : ℕ). length soft ≤ t) c.first_above.ensures c.if-first_above-soft.false in record {
+        limit_bound = subst⁻¹ (λ (l : ℕ). l ≤ 2000) c.way_of-way.ensures.limit_value.0 c.if-limit-gt2000.false;
         by_index = λ k h. below_first soft 7 k (omega arith);
-        by_index_2 = (named start.args.supercode, start.args.level, level, made.tables_of-tables.ensures, λ with_list. hard.tables_of-hard.ensures.2 (sym way.Way-of.ensures.1 ∙ with_list));
+        by_index_2 = (named start.args.supercode, start.args.level, level, c.tables_of-tables.ensures, λ with_list. c.tables_of-hard.ensures.2 (sym c.way_of-way.ensures.second_value ∙ with_list));
       }
 
 pub returns : goal.returns
 returns c =
-    let way = c in
-    let hard = way in
-    let made = hard in
-    let good = made in
-    let told = good in
-    let allowed = told in
-    let start = allowed in
+    let start = c in
     let soft = start.args.soft.now in
-    let level = allowed.if-level-ge4.false in
-    let in_range = allowed_is start.args.second start.args.threshold start.ranges.threshold allowed.threshold_allowed.ensures ∙ not-false _ allowed.if-not-threshold_allowed.false in
-    let values : length soft ≤ first_above soft 7 = subst (λ (t : ℕ). length soft ≤ t) told.first_above.ensures good.if-first_above-soft.false in
-    let is = way.Way-of.ensures in
-    let found = c.search_all.ensures (named start.args.supercode) start.args.level level made.tables_of-tables.ensures (λ with_list. hard.tables_of-hard.ensures.2 (sym is.1 ∙ with_list)) ∙ folded_by_its_way way.Way-of.result _ _ (is.0.2 ∙ handed_on start.args.second start.args.threshold start.ranges.threshold) is.0.0 (named start.args.supercode) soft start.args.level in
-    simp (lt-ltb _ _ level, le-leb _ _ allowed.if-limit-gt2000.false, in_range, le-leb _ _ values, found)
+    let level = c.if-level-ge4.false in
+    let in_range = allowed_is start.args.second start.args.threshold start.ranges.threshold c.threshold_allowed.ensures ∙ c.if-not-threshold_allowed.false in
+    let values : length soft ≤ first_above soft 7 = subst (λ (t : ℕ). length soft ≤ t) c.first_above.ensures c.if-first_above-soft.false in
+    let is = c.way_of-way.ensures in
+    let found = c.search_all.ensures (named start.args.supercode) start.args.level level c.tables_of-tables.ensures (λ with_list. c.tables_of-hard.ensures.2 (sym is.1 ∙ with_list)) ∙ folded_by_its_way c.way_of-way.result _ _ (is.0.2 ∙ handed_on start.args.second start.args.threshold start.ranges.threshold) is.0.0 (named start.args.supercode) soft start.args.level in
+    simp (lt-ltb _ _ level, le-leb _ _ c.if-limit-gt2000.false, in_range, le-leb _ _ values, found)

@@ -9,5 +9,4 @@ use Rattle.measured.proofs.measured_list_searches.Goals as goal
 
 pub returns : goal.returns
 returns c =
-    let start = c in
-    c.measured_by.ensures ∙ ap (λ (choice : Choice). measured_answer choice (named start.args.supercode) start.args.level start.args.soft.now start.args.limit) (handed_on true start.args.threshold start.ranges.threshold)
+    c.measured_by.ensures ∙ ap (λ (choice : Choice). measured_answer choice (named c.args.supercode) c.args.level c.args.soft.now c.args.limit) (handed_on true c.args.threshold c.ranges.threshold)

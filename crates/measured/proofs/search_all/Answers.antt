@@ -18,41 +18,34 @@ loop-a-init c = (search rules, search rules, search rules, λ s i h tables hard.
 
 pub search_by-found-requires : goal.search_by-found-requires
 search_by-found-requires c =
-    let at_loop = c in
-    let start = at_loop in
-    let soft = start.args.soft.now in
-    let a = at_loop.loop-a.a in
-    let fits : a + 30 ≤ length soft = omega (arith, at_loop.loop-a.invariant.0) in
-    let some = start.requires.by_index_2 in record {
-        limit_bound = start.requires.limit_bound;
-        searchable30 = column_searchable some.0 some.1 some.2 (take (a + 30 - a) (drop a soft)) _ _ _ (part_long soft a fits) (part_range soft a fits start.requires.by_index) some.3;
+    let soft = c.args.soft.now in
+    let a = c.loop-a.a in
+    let fits : a + 30 ≤ length soft = omega (arith, c.loop-a.invariant.0) in
+    let some = c.requires.by_index_2 in record {
+        limit_bound = c.requires.limit_bound;
+        searchable30 = column_searchable some.0 some.1 some.2 (take (a + 30 - a) (drop a soft)) _ _ _ (part_long soft a fits) (part_range soft a fits c.requires.by_index) some.3;
         by_index = (some.1, some.2, some.4);
-        room = at_loop.loop-a.invariant.2;
+        room = c.loop-a.invariant.2;
       }
 
 pub loop-a-preserved : goal.loop-a-preserved
 loop-a-preserved c =
-    let found = c in
-    let turn = found in
-    let at_loop = turn in
-    let start = at_loop in
-    let soft = start.args.soft.now in
-    let a = at_loop.loop-a.a in
-    let inv = at_loop.loop-a.invariant in
-    let fits : a + 30 ≤ length soft = omega (arith, inv.0, turn.loop-a-test.true) in
+    let soft = c.args.soft.now in
+    let a = c.loop-a.a in
+    let inv = c.loop-a.invariant in
+    let fits : a + 30 ≤ length soft = omega (arith, inv.0, c.loop-a-test.true) in
     let whole : (a + 30) % 30 ≡ 0 = omega (arith, inv.1) in (
       fits,
       whole,
-      found.search_by-found.ensures.room_2,
+      c.search_by-found.ensures.room_2,
       λ s i h tables hard.
-          let way = start.args.way in
-          one_more_folded (searched_number (choice_of way) s i way.limit) soft a _ _ inv.1 (inv.3 s i h tables hard) (c.folded-fold.ensures ∙ ap folded (found.search_by-found.ensures.value s i h tables hard)),
+          let way = c.args.way in
+          one_more_folded (searched_number (choice_of way) s i way.limit) soft a _ _ inv.1 (inv.3 s i h tables hard) (c.folded-fold.ensures ∙ ap folded (c.search_by-found.ensures.value s i h tables hard)),
     )
 
 pub returns : goal.returns
 returns c =
-    let at_loop = c in
-    let inv = at_loop.loop-a.invariant in
-    let soft = at_loop.args.soft.now in
-    let last : length soft - at_loop.loop-a.a < 30 = omega (arith, c.loop-a-test.false) in
+    let inv = c.loop-a.invariant in
+    let soft = c.args.soft.now in
+    let last : length soft - c.loop-a.a < 30 = omega (arith, c.loop-a-test.false) in
     λ s i h tables hard. all_folded _ soft _ _ inv.1 inv.0 last (inv.3 s i h tables hard)

@@ -13,16 +13,13 @@ use Rattle.page.proofs.ask_page.Goals as goal
 
 pub decode_columns-outcome-requires : goal.decode_columns-outcome-requires
 decode_columns-outcome-requires c =
-    let start = c in
-    (start.requires.2, soft_columns_lem _ _ start.requires.0 start.requires.1 c.load.ensures, record { sums = refl; lens = refl; bits = refl }, refl, refl, refl)
+    (c.requires.2, soft_columns_lem _ _ c.requires.0 c.requires.1 c.load.ensures, record { sums = refl; lens = refl; bits = refl }, refl, refl, refl)
 
 pub returns : goal.returns
 returns c =
-    let decoding = c in
-    let start = decoding in
-    let read = way_reader start.args.way in
-    let loaded = decoding.load.ensures in
-    let given = c.told.ensures read _ decoding.decode_columns-outcome.ensures in record {
+    let read = way_reader c.args.way in
+    let loaded = c.load.ensures in
+    let given = c.told.ensures read _ c.decode_columns-outcome.ensures in record {
         value = given.0 ∙ ap (λ (p : List (List ℕ)). outcome_of (decoded short short_outer read p)) loaded;
-        symbols_after = given.1 ∙ ap (λ (p : List (List ℕ)). filled symbol_buffer start.args.symbols.now (decoded short short_outer read p)) loaded;
+        symbols_after = given.1 ∙ ap (λ (p : List (List ℕ)). filled symbol_buffer c.args.symbols.now (decoded short short_outer read p)) loaded;
       }

@@ -10,19 +10,17 @@ use Rattle.page.proofs.decode_page.Goals as goal
 pub pack-requires : goal.pack-requires
 pack-requires c =
     let asked = c.ask_page-outcome.ensures in
-    let start = c in
-    let read = way_reader start.args.way in
-    let page = soft_columns short_page start.args.soft.now in
-    let wide = as_many_columns short_page start.args.soft.now in
-    ((answer_is_packed read page _ asked.0 wide c.if-outcome-eq0.true _ _ asked.1).0, start.requires.3)
+    let read = way_reader c.args.way in
+    let page = soft_columns short_page c.args.soft.now in
+    let wide = as_many_columns short_page c.args.soft.now in
+    ((answer_is_packed read page _ asked.0 wide c.if-outcome-eq0.true _ _ asked.1).0, c.requires.3)
 
 pub returns-then-outcome-eq0 : goal.returns-then-outcome-eq0
 returns-then-outcome-eq0 c =
     let asked = c.ask_page-outcome.ensures in
-    let start = c in
-    let read = way_reader start.args.way in
-    let page = soft_columns short_page start.args.soft.now in
-    let wide = as_many_columns short_page start.args.soft.now in record {
+    let read = way_reader c.args.way in
+    let page = soft_columns short_page c.args.soft.now in
+    let wide = as_many_columns short_page c.args.soft.now in record {
         value = asked.0;
         data_after = (answer_is_packed read page _ asked.0 wide c.if-outcome-eq0.true _ _ asked.1).1 _ _ c.pack.ensures;
       }
@@ -30,9 +28,8 @@ returns-then-outcome-eq0 c =
 pub returns-else-outcome-eq0 : goal.returns-else-outcome-eq0
 returns-else-outcome-eq0 c =
     let asked = c.ask_page-outcome.ensures in
-    let start = c in
-    let read = way_reader start.args.way in
-    let page = soft_columns short_page start.args.soft.now in record {
+    let read = way_reader c.args.way in
+    let page = soft_columns short_page c.args.soft.now in record {
         value = asked.0;
         data_after = refusal_is_not_packed read page _ asked.0 c.if-outcome-eq0.false _;
       }

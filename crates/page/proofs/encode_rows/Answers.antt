@@ -25,26 +25,20 @@ slice_bounds-encode-end c = omega (arith, row_data_within_200 c.loop-level.level
 
 pub encode-requires : goal.encode-requires
 encode-requires c =
-    let turn = c in
-    let made = turn in
-    let start = made in
-    let bytes = start.args.«data».now in
+    let bytes = c.args.«data».now in
     let h = c.loop-level-test.true in
     let t = c.roots-t.ensures.0 in
-    let level = turn.loop-level.level in
-    (record { level = level; level_exists = h; is_its = t }, part_and_roots bytes level h _ made.symbols_of.ensures _ _ turn.loop-level.invariant.1 t, part_is_of_symbols bytes level h _ made.symbols_of.ensures _ _ turn.loop-level.invariant.1 t, refl)
+    let level = c.loop-level.level in
+    (record { level = level; level_exists = h; is_its = t }, part_and_roots bytes level h _ c.symbols_of.ensures _ _ c.loop-level.invariant.1 t, part_is_of_symbols bytes level h _ c.symbols_of.ensures _ _ c.loop-level.invariant.1 t, refl)
 
 pub loop-level-preserved : goal.loop-level-preserved
 loop-level-preserved c =
-    let turn = c in
-    let made = turn in
-    let start = made in
-    let bytes = start.args.«data».now in
+    let bytes = c.args.«data».now in
     let h = c.loop-level-test.true in
     let t = c.roots-t.ensures.0 in
-    let level = turn.loop-level.level in
-    let next = next_place bytes level h _ made.symbols_of.ensures _ _ turn.loop-level.invariant.1 t in
-    (front_more _ _ 4 _ _ [] turn.loop-level.invariant.0 h (row_written bytes level h _ made.symbols_of.ensures _ _ turn.loop-level.invariant.1 t _ c.encode.ensures), omega (arith, next))
+    let level = c.loop-level.level in
+    let next = next_place bytes level h _ c.symbols_of.ensures _ _ c.loop-level.invariant.1 t in
+    (front_more _ _ 4 _ _ [] c.loop-level.invariant.0 h (row_written bytes level h _ c.symbols_of.ensures _ _ c.loop-level.invariant.1 t _ c.encode.ensures), omega (arith, next))
 
 pub returns : goal.returns
 returns c = front_all _ _ 4 _ c.loop-level.invariant.0 c.loop-level-test.false

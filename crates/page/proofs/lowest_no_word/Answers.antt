@@ -30,29 +30,25 @@ loop-level-init c = (omega arith, refl)
 
 pub is_codeword-requires : goal.is_codeword-requires
 is_codeword-requires c =
-    let turn = c in
-    let symbols = turn.args.symbols.now in
-    let row = cut_out_row_is_a_word symbols turn.requires turn.loop-level.level _ _ c.loop-level-test.true refl refl in
-    (row.0, word_is_of_symbols 6 63 (row_from symbols turn.loop-level.level) row, c.roots.ensures.1)
+    let symbols = c.args.symbols.now in
+    let row = cut_out_row_is_a_word symbols c.requires c.loop-level.level _ _ c.loop-level-test.true refl refl in
+    (row.0, word_is_of_symbols 6 63 (row_from symbols c.loop-level.level) row, c.roots.ensures.1)
 
 pub returns-then-not-is_codeword : goal.returns-then-not-is_codeword
 returns-then-not-is_codeword c =
-    let turn = c in
     let h = c.loop-level-test.true in
-    let symbols = turn.args.symbols.now in
-    let none = sym (tested symbols turn.loop-level.level _ _ h c.roots.ensures.0 c.is_a_codeword.ensures) ∙ not-true _ c.if-not-is_codeword.true in
-    sym (turn.loop-level.invariant.1 ∙ lowest_is_here is_short_codeword (rows_in short_page symbols) turn.loop-level.level (omega (arith, as_many_rows_in short_page symbols, h)) none)
+    let symbols = c.args.symbols.now in
+    let none = sym (tested symbols c.loop-level.level _ _ h c.roots.ensures.0 c.is_a_codeword.ensures) ∙ c.if-not-is_codeword.true in
+    sym (c.loop-level.invariant.1 ∙ lowest_is_here is_short_codeword (rows_in short_page symbols) c.loop-level.level (omega (arith, as_many_rows_in short_page symbols, h)) none)
 
 pub loop-level-preserved : goal.loop-level-preserved
 loop-level-preserved c =
-    let turn = c in
     let h = c.loop-level-test.true in
-    let symbols = turn.args.symbols.now in
-    let word = sym (tested symbols turn.loop-level.level _ _ h c.roots.ensures.0 c.is_a_codeword.ensures) ∙ not-false _ c.if-not-is_codeword.false in
-    (omega arith, turn.loop-level.invariant.1 ∙ lowest_lies_above is_short_codeword (rows_in short_page symbols) turn.loop-level.level (omega (arith, as_many_rows_in short_page symbols, h)) word)
+    let symbols = c.args.symbols.now in
+    let word = sym (tested symbols c.loop-level.level _ _ h c.roots.ensures.0 c.is_a_codeword.ensures) ∙ c.if-not-is_codeword.false in
+    (omega arith, c.loop-level.invariant.1 ∙ lowest_lies_above is_short_codeword (rows_in short_page symbols) c.loop-level.level (omega (arith, as_many_rows_in short_page symbols, h)) word)
 
 pub returns : goal.returns
 returns c =
-    let turn = c in
-    let symbols = turn.args.symbols.now in
-    sym (turn.loop-level.invariant.1 ∙ lowest_is_none is_short_codeword (rows_in short_page symbols) turn.loop-level.level (omega (arith, as_many_rows_in short_page symbols, turn.loop-level.invariant.0, c.loop-level-test.false)))
+    let symbols = c.args.symbols.now in
+    sym (c.loop-level.invariant.1 ∙ lowest_is_none is_short_codeword (rows_in short_page symbols) c.loop-level.level (omega (arith, as_many_rows_in short_page symbols, c.loop-level.invariant.0, c.loop-level-test.false)))

@@ -8,25 +8,22 @@ use Rattle.page.proofs.told.Goals as goal
 
 pub row_after_row-requires : goal.row_after_row-requires
 row_after_row-requires c =
-    let start = c in
     let told = c.outcome-1.given in
-    let given = start.requires.by_index in
-    ((is_answered given.0 given.1 _ _ _ _ given.2 told.0.0 told.0.1.0 told.1).good, start.requires.symbols_len)
+    let given = c.requires.by_index in
+    ((is_answered given.0 given.1 _ _ _ _ given.2 told.0.0 told.0.1.0 told.1).good, c.requires.symbols_len)
 
 pub returns-in-Answered : goal.returns-in-Answered
 returns-in-Answered c read page done =
-    let start = c in
     let told = c.outcome-1.given in
     let answer = is_answered read page _ _ _ _ done told.0.0 told.0.1.0 told.1 in (
       answered_outcome _ _ _ _ _ _ answer _ _ _ c.totals.ensures c.totals-in-Answered.ensures (to_z-of_z (record { sfits = search rules })),
-      answered_symbols _ _ _ _ _ _ answer start.args.symbols.now _ c.row_after_row.ensures,
+      answered_symbols _ _ _ _ _ _ answer c.args.symbols.now _ c.row_after_row.ensures,
     )
 
 pub returns-in-Refused : goal.returns-in-Refused
 returns-in-Refused c read page done =
-    let start = c in
     let told = c.outcome-in-Refused-1.given in
     let refusal = sym (is_refused read page _ _ _ _ done told.0.0 told.1) in (
       c.refused.ensures ∙ refusal_is_10 told.0.0 ∙ ap outcome_of refusal,
-      refusal_keeps_the_symbols start.args.symbols.now told.0.0 ∙ ap (filled symbol_buffer start.args.symbols.now) refusal,
+      refusal_keeps_the_symbols c.args.symbols.now told.0.0 ∙ ap (filled symbol_buffer c.args.symbols.now) refusal,
     )

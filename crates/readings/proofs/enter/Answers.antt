@@ -16,34 +16,31 @@ use Rattle.readings.proofs.enter.Goals as goal
 
 pub reimage-requires : goal.reimage-requires
 reimage-requires c =
-    let start = c in record {
-        level_bound = start.requires.0;
-        column_bound = subst WordInRange c.found-1.given.1 start.requires.1;
+    record {
+        level_bound = c.requires.0;
+        column_bound = subst WordInRange c.found-1.given.1 c.requires.1;
       }
 
 pub overflow_cast-result : goal.overflow_cast-result
 overflow_cast-result c =
-    let start = c in
-    record { fits = omega (arith, c.reimage.ensures, reimaged_lt short sound _ _ start.requires.0 (subst WordInRange c.found-1.given.1 start.requires.1)) }
+    record { fits = omega (arith, c.reimage.ensures, reimaged_lt short sound _ _ c.requires.0 (subst WordInRange c.found-1.given.1 c.requires.1)) }
 
 pub returns-in-Found : goal.returns-in-Found
 unfolding symbol mark count lows lowest_from
 returns-in-Found c =
-    let start = c in
     let e = sym c.found-1.given.1 in (
-      c.reimage.ensures ∙ ap (λ (x : SearchOutcome). symbol short start.args.level (as_reading start.args.limit x)) e,
-      ap (λ (x : SearchOutcome). flag (mark (as_reading start.args.limit x))) e,
-      ap (λ (x : SearchOutcome). count (as_reading start.args.limit x)) e,
-      to_z-of_z (record { sfits = c.lower.type_inv }) ∙ c.lower.ensures ∙ ap₂ lower (to_z-of_z start.ranges.lowest) (to_z-of_z (record { sfits = search rules })) ∙ ap (λ (x : SearchOutcome). lowest_from start.args.lowest (lows (as_reading start.args.limit x ∷ []))) e,
+      c.reimage.ensures ∙ ap (λ (x : SearchOutcome). symbol short c.args.level (as_reading c.args.limit x)) e,
+      ap (λ (x : SearchOutcome). flag (mark (as_reading c.args.limit x))) e,
+      ap (λ (x : SearchOutcome). count (as_reading c.args.limit x)) e,
+      to_z-of_z (record { sfits = c.lower.type_inv }) ∙ c.lower.ensures ∙ ap₂ lower (to_z-of_z c.ranges.lowest) (to_z-of_z (record { sfits = search rules })) ∙ ap (λ (x : SearchOutcome). lowest_from c.args.lowest (lows (as_reading c.args.limit x ∷ []))) e,
     )
 
 pub returns-in-Spent : goal.returns-in-Spent
 unfolding symbol mark count lows lowest_from
 returns-in-Spent c =
-    let start = c in
     let e = sym c.enum_told-1.given.1 in (
-      ap (λ (x : SearchOutcome). symbol short start.args.level (as_reading start.args.limit x)) e,
-      ap (λ (x : SearchOutcome). flag (mark (as_reading start.args.limit x))) e,
-      ap (λ (x : SearchOutcome). count (as_reading start.args.limit x)) e,
-      to_z-of_z start.ranges.lowest ∙ ap (λ (x : SearchOutcome). lowest_from start.args.lowest (lows (as_reading start.args.limit x ∷ []))) e,
+      ap (λ (x : SearchOutcome). symbol short c.args.level (as_reading c.args.limit x)) e,
+      ap (λ (x : SearchOutcome). flag (mark (as_reading c.args.limit x))) e,
+      ap (λ (x : SearchOutcome). count (as_reading c.args.limit x)) e,
+      to_z-of_z c.ranges.lowest ∙ ap (λ (x : SearchOutcome). lowest_from c.args.lowest (lows (as_reading c.args.limit x ∷ []))) e,
     )

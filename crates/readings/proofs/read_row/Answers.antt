@@ -61,37 +61,33 @@ count_few turn =
 
 pub tables_of-hard-requires : goal.tables_of-hard-requires
 tables_of-hard-requires c =
-    let made = c in
-    let start = made in record {
-        level_bound = start.requires.0;
-        by_index = level_table_near (search_of start.args.way.in_supercodes) start.args.level start.requires.0 _ _ _ made.tables_of-tables.ensures;
+    record {
+        level_bound = c.requires.0;
+        by_index = level_table_near (search_of c.args.way.in_supercodes) c.args.level c.requires.0 _ _ _ c.tables_of-tables.ensures;
       }
 
 pub loop-j-init : goal.loop-j-init
 loop-j-init c =
-    let start = c in
-    (nothing_read _ _ _ _ _ _ _ start.requires.2.many start.requires.4 start.requires.5 refl, start.requires.3)
+    (nothing_read _ _ _ _ _ _ _ c.requires.2.many c.requires.4 c.requires.5 refl, c.requires.3)
 
 pub slice_bounds-search_by-end : goal.slice_bounds-search_by-end
 slice_bounds-search_by-end c =
-    let turn = c in
-    let a = start turn in
+    let a = start c in
     let work = a.args.work.now in
-    let long : turn.loop-j.j < length work = omega (arith, a.pre.2.many, c.loop-j-test.true) in
-    sym (all_at (λ x. (length x ≡ 30) × Soft x) work turn.loop-j.j [] a.pre.2.soft long).0
+    let long : c.loop-j.j < length work = omega (arith, a.pre.2.many, c.loop-j-test.true) in
+    sym (all_at (λ x. (length x ≡ 30) × Soft x) work c.loop-j.j [] a.pre.2.soft long).0
 
 pub search_by-found-requires : goal.search_by-found-requires
 search_by-found-requires c =
-    let turn = c in
-    let a = start turn in
+    let a = start c in
     let work = a.args.work.now in
-    let j = turn.loop-j.j in
+    let j = c.loop-j.j in
     let long : j < length work = omega (arith, a.pre.2.many, c.loop-j-test.true) in
     let soft = all_at (λ x. (length x ≡ 30) × Soft x) work j [] a.pre.2.soft long in record {
         limit_bound = a.requires.1;
-        searchable30 = column_searchable (search_of a.args.way.in_supercodes) a.args.level a.requires.0 _ _ _ _ soft.0 (soft_column_lem (get_or work j []) soft) (made_of turn).tables-of.ensures;
-        by_index = (a.args.level, a.requires.0, (hard_of turn).tables-of2.ensures.2);
-        room = turn.loop-j.invariant.1;
+        searchable30 = column_searchable (search_of a.args.way.in_supercodes) a.args.level a.requires.0 _ _ _ _ soft.0 (soft_column_lem (get_or work j []) soft) (made_of c).tables-of.ensures;
+        by_index = (a.args.level, a.requires.0, (hard_of c).tables-of2.ensures.2);
+        room = c.loop-j.invariant.1;
       }
 
 pub enter-e-requires : goal.enter-e-requires
@@ -102,18 +98,16 @@ enter-e-requires c =
 
 pub overflow_add-sum : goal.overflow_add-sum
 overflow_add-sum c =
-    let found = c in
-    let j63 = found.loop-j-test.true in
-    record { fits = omega (arith, c.enter-e.ensures.2 ∙ ap count (searched_is found), count_few (turn_of found), (turn_of found).loop.invariant.0.few, j63) }
+    let j63 = c.loop-j-test.true in
+    record { fits = omega (arith, c.enter-e.ensures.2 ∙ ap count (searched_is c), count_few (turn_of c), (turn_of c).loop.invariant.0.few, j63) }
 
 pub loop-j-preserved : goal.loop-j-preserved
 loop-j-preserved c =
-    let found = c in
-    let turn = turn_of found in
-    let j63 = found.loop-j-test.true in
+    let turn = turn_of c in
+    let j63 = c.loop-j-test.true in
     let entry = c.enter-e.ensures in
-    let few : c.enter-e.result.count ≤ 2000 = omega (arith, entry.2 ∙ ap count (searched_is found), count_few turn) in
-    (one_more_read _ _ _ _ _ _ _ _ _ _ _ _ _ _ turn.loop-j.inv.0 j63 (searched_is found) entry.0 entry.1 entry.2 (to_z-of_z (record { sfits = search rules }) ∙ entry.3) few, found.search_by-found.ensures.room_2)
+    let few : c.enter-e.result.count ≤ 2000 = omega (arith, entry.2 ∙ ap count (searched_is c), count_few turn) in
+    (one_more_read _ _ _ _ _ _ _ _ _ _ _ _ _ _ turn.loop-j.inv.0 j63 (searched_is c) entry.0 entry.1 entry.2 (to_z-of_z (record { sfits = search rules }) ∙ entry.3) few, c.search_by-found.ensures.room_2)
 
 pub returns : goal.returns
 returns c =

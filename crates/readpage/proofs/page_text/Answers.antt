@@ -16,10 +16,9 @@ shape_of-out-then-page-ne0 c = c.append_refused.ensures.size
 
 pub returns-then-page-ne0 : goal.returns-then-page-ne0
 returns-then-page-ne0 c =
-    let start = c in
     let page = c.decode_page-page in
     let some = c.if-page-ne0.true in
-    let text = text_of_refused supercode start.args.soft.now _ page.new.1.1.0 page.result page.ensures start.requires.0 refl start.requires.1 some in
+    let text = text_of_refused supercode c.args.soft.now _ page.new.1.1.0 page.result page.ensures c.requires.0 refl c.requires.1 some in
     as_text text (omega arith) c.append_refused.ensures
 
 pub append_levels-bytes-requires : goal.append_levels-bytes-requires
@@ -27,26 +26,16 @@ append_levels-bytes-requires c = room_left 472 c.append_ok-levels.ensures c.requ
 
 pub append_data-requires : goal.append_data-requires
 append_data-requires c =
-    let levels = c in
-    let head = levels in
-    let given = head in
-    (given.data-2-1.given, room_left 306 (then head.append_ok-levels.ensures levels.append_levels-bytes.ensures) given.requires.2 tt)
+    (c.data-2-1.given, room_left 306 (then c.append_ok-levels.ensures c.append_levels-bytes.ensures) c.requires.2 tt)
 
 pub shape_of-out : goal.shape_of-out
 shape_of-out c =
-    let end = c in
-    let levels = end in
-    let head = levels in
-    (then (then head.append_ok-levels.ensures levels.append_levels-bytes.ensures) end.append_data.ensures).size
+    (then (then c.append_ok-levels.ensures c.append_levels-bytes.ensures) c.append_data.ensures).size
 
 pub returns : goal.returns
 unfolding page_text
 returns c =
-    let end = c in
-    let levels = end in
-    let head = levels in
-    let none = head.if-page-ne0.false in
-    let page = head.decode_page-page in
-    let start = head in
-    let text = text_of_answered supercode start.args.soft.now _ page.new.1.1.0 page.result page.ensures start.requires.0 refl start.requires.1 none in
-    as_text text (omega arith) (then (then head.append_ok-levels.ensures levels.append_levels-bytes.ensures) end.append_data.ensures)
+    let none = c.if-page-ne0.false in
+    let page = c.decode_page-page in
+    let text = text_of_answered supercode c.args.soft.now _ page.new.1.1.0 page.result page.ensures c.requires.0 refl c.requires.1 none in
+    as_text text (omega arith) (then (then c.append_ok-levels.ensures c.append_levels-bytes.ensures) c.append_data.ensures)

@@ -4,10 +4,11 @@ use mir.Facts.{to_z-of_z}
 use Rattle.searches.specs.Searches.{as_answer}
 use Rattle.searches.proofs.Outcomes.{found_answer}
 use borrow.Author.Rules.{rules}
+use mir.Syntax.{w16}
 use Rattle.searches.proofs.as_answer.Goals as goal
 
 pub returns-in-Found : goal.returns-in-Found
-returns-in-Found c = found_answer _ _ _ _ c.found-1.given.1 (to_z-of_z (record { sfits = search rules }))
+returns-in-Found c = found_answer _ _ _ _ c.in-Found.is (to_z-of_z {w = w16} (record { sfits = search rules }))
 
 pub returns-in-Spent : goal.returns-in-Spent
-returns-in-Spent c = sym (ap as_answer c.enum_told-1.given.1)
+returns-in-Spent c = sym (ap as_answer c.in-Spent.is)

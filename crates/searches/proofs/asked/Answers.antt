@@ -1,10 +1,9 @@
 -- `searches::asked` meets its contract: each return rewrites with the tests that led there. Assumes nothing.
 use mathlib.Core.Path.{◌∙◌, subst}
 use Prim.Native.Nat.{ℕ, ◌≤◌, ◌<◌}
-use borrow.Author.Tests.{eq-eqb, ne_eqb, le-ltb, lt-ltb, le-leb, lt-leb, not-true, not-false}
+use borrow.Author.Tests.{eq-eqb, ne_eqb, le-ltb, lt-ltb, le-leb, lt-leb}
 use Rattle.questions.specs.Questions.{first_above}
 use Rattle.list_of_two.proofs.Thresholds.{allowed_is}
-use borrow.Author.Rules.{rules}
 use Rattle.searches.proofs.asked.Goals as goal
 
 pub returns-then-soft-ne30 : goal.returns-then-soft-ne30
@@ -21,27 +20,19 @@ returns-then-limit-gt2000 c = simp (eq-eqb _ _ c.if-soft-ne30.false, lt-ltb _ _ 
 
 pub returns-then-not-threshold_allowed : goal.returns-then-not-threshold_allowed
 returns-then-not-threshold_allowed c =
-    let asked = c in
-    let start = asked in
-    let no = allowed_is start.args.second start.args.threshold start.ranges.threshold c.threshold_allowed.ensures ∙ not-true _ c.if-not-threshold_allowed.true in
-    simp (eq-eqb _ _ asked.if-soft-ne30.false, lt-ltb _ _ asked.if-level-ge4.false, le-leb _ _ asked.if-limit-lt1.false, le-leb _ _ asked.if-limit-gt2000.false, no)
+    let no = allowed_is c.args.second c.args.threshold c.ranges.threshold c.threshold_allowed.ensures ∙ c.if-not-threshold_allowed.true in
+    simp (eq-eqb _ _ c.if-soft-ne30.false, lt-ltb _ _ c.if-level-ge4.false, le-leb _ _ c.if-limit-lt1.false, le-leb _ _ c.if-limit-gt2000.false, no)
 
 pub returns-then-bad-lt30 : goal.returns-then-bad-lt30
 returns-then-bad-lt30 c =
     let place = c.first_above-bad in
-    let allowed = c in
-    let asked = allowed in
-    let start = asked in
-    let bad : first_above start.args.soft.now 7 < 30 = subst (λ (t : ℕ). t < 30) place.ensures c.if-bad-lt30.true in
-    let in_range = allowed_is start.args.second start.args.threshold start.ranges.threshold allowed.threshold_allowed.ensures ∙ not-false _ allowed.if-not-threshold_allowed.false in
-    simp (eq-eqb _ _ asked.if-soft-ne30.false, lt-ltb _ _ asked.if-level-ge4.false, le-leb _ _ asked.if-limit-lt1.false, le-leb _ _ asked.if-limit-gt2000.false, in_range, lt-leb _ _ bad, place.ensures)
+    let bad : first_above c.args.soft.now 7 < 30 = subst (λ (t : ℕ). t < 30) place.ensures c.if-bad-lt30.true in
+    let in_range = allowed_is c.args.second c.args.threshold c.ranges.threshold c.threshold_allowed.ensures ∙ c.if-not-threshold_allowed.false in
+    simp (eq-eqb _ _ c.if-soft-ne30.false, lt-ltb _ _ c.if-level-ge4.false, le-leb _ _ c.if-limit-lt1.false, le-leb _ _ c.if-limit-gt2000.false, in_range, lt-leb _ _ bad, place.ensures)
 
 pub returns : goal.returns
 returns c =
     let place = c.first_above-bad in
-    let allowed = c in
-    let asked = allowed in
-    let start = asked in
-    let good : 30 ≤ first_above start.args.soft.now 7 = subst (λ (t : ℕ). 30 ≤ t) place.ensures c.if-bad-lt30.false in
-    let in_range = allowed_is start.args.second start.args.threshold start.ranges.threshold allowed.threshold_allowed.ensures ∙ not-false _ allowed.if-not-threshold_allowed.false in
-    simp (eq-eqb _ _ asked.if-soft-ne30.false, lt-ltb _ _ asked.if-level-ge4.false, le-leb _ _ asked.if-limit-lt1.false, le-leb _ _ asked.if-limit-gt2000.false, in_range, le-leb _ _ good)
+    let good : 30 ≤ first_above c.args.soft.now 7 = subst (λ (t : ℕ). 30 ≤ t) place.ensures c.if-bad-lt30.false in
+    let in_range = allowed_is c.args.second c.args.threshold c.ranges.threshold c.threshold_allowed.ensures ∙ c.if-not-threshold_allowed.false in
+    simp (eq-eqb _ _ c.if-soft-ne30.false, lt-ltb _ _ c.if-level-ge4.false, le-leb _ _ c.if-limit-lt1.false, le-leb _ _ c.if-limit-gt2000.false, in_range, le-leb _ _ good)

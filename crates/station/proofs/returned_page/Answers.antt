@@ -14,12 +14,7 @@ returns-then-number-ne0 c = (c.returned_number.ensures, simp (ne_eqb _ _ c.if-nu
 
 pub returns : goal.returns
 returns c =
-    let low_written = c in
-    let written = low_written in
-    let copied = written in
-    let made = copied in
-    let start = c in
-    let told = start.args.outcome.report in
+    let told = c.args.outcome.report in
     let fits : SFits w16 told.low = record { sfits = search rules } in
-    let is = report_is told _ _ _ _ _ start.requires.2 made.steps_and_totals-front.ensures copied.copy.ensures.1 written.write_marks.ensures (low_written.write_low.ensures ∙ ap low_bytes (to_z-of_z fits)) in
-    (c.returned_number-2.ensures, simp (eq-eqb _ _ made.if-number-ne0.false) is)
+    let is = report_is told _ _ _ _ _ c.requires.2 c.steps_and_totals-front.ensures c.copy.ensures.1 c.write_marks.ensures (c.write_low.ensures ∙ ap low_bytes (to_z-of_z fits)) in
+    (c.returned_number-2.ensures, simp (eq-eqb _ _ c.if-number-ne0.false) is)

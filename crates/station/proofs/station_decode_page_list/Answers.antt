@@ -27,7 +27,6 @@ returned_page-requires c =
 
 pub returns : goal.returns
 returns c =
-    let start = c in
-    let args = start.args in
-    let page = as_handed_on true args.threshold start.ranges.threshold supercode c.decode_page_list.ensures in
+    let args = c.args in
+    let page = as_handed_on true args.threshold c.ranges.threshold supercode c.decode_page_list.ensures in
     returned_by_the_call data_buffer (on args.threshold) args.soft.now args.limit args.«data».now args.report-1.now _ c.lengths_asked-bad.ensures c.if-bad-ne0.false _ _ page _ _ c.returned_page.ensures

@@ -9,5 +9,4 @@ use Rattle.station.proofs.write_low.Goals as goal
 
 pub returns : goal.returns
 returns c =
-    let start = c in
-    two_bytes_written start.args.out.now _ start.requires ∙ ap (digits 256 2) (c.sixteen_bits-bits.ensures ∙ ap sixteen_bits (to_z-of_z start.ranges.low))
+    two_bytes_written c.args.out.now _ c.requires ∙ ap (digits 256 2) (c.sixteen_bits-bits.ensures ∙ ap sixteen_bits (to_z-of_z c.ranges.low))

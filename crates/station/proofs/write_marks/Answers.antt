@@ -10,20 +10,16 @@ loop-level-init c = marking_none _ _ _ c.requires
 
 pub slice_bounds-write_mark-end-in-loop-level : goal.slice_bounds-write_mark-end-in-loop-level
 slice_bounds-write_mark-end-in-loop-level c =
-    let turn = c in
-    omega (arith, c.out-1.given, turn.loop-level.invariant.long, c.loop-level-test.true)
+    omega (arith, c.out-1.given, c.loop-level.invariant.long, c.loop-level-test.true)
 
 pub loop-level-preserved : goal.loop-level-preserved
 loop-level-preserved c =
-    let turn = c in
-    let start = turn in
     let taken = c.loop-level-test.true in
-    marking_more _ _ _ start.requires _ _ turn.loop-level.invariant taken _ c.write_mark.ensures _ c.write_mark-in-loop-level.ensures
+    marking_more _ _ _ c.requires _ _ c.loop-level.invariant taken _ c.write_mark.ensures _ c.write_mark-in-loop-level.ensures
 
 pub shape_of-out : goal.shape_of-out
 shape_of-out c = c.loop-level.invariant.long ∙ sym c.requires
 
 pub returns : goal.returns
 returns c =
-    let start = c in
-    marking_all _ _ _ start.requires _ _ c.loop-level.invariant c.loop-level-test.false
+    marking_all _ _ _ c.requires _ _ c.loop-level.invariant c.loop-level-test.false

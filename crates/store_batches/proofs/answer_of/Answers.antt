@@ -7,21 +7,21 @@ use Rattle.store_batches.proofs.answer_of.Goals as goal
 
 pub returns-then-soft-lt30 : goal.returns-then-soft-lt30
 returns-then-soft-lt30 c =
-    let start = c in record {
-        room = start.requires.0;
-        value = lies_outside start.args.soft.now start.args.limit start.args.job (omega (arith, c.if-soft-lt30.true));
+    record {
+        room = c.requires.0;
+        value = lies_outside c.args.soft.now c.args.limit c.args.job (omega (arith, c.if-soft-lt30.true));
       }
 
 pub returns-then-last-job : goal.returns-then-last-job
 returns-then-last-job c =
-    let start = c in record {
-        room = start.requires.0;
-        value = lies_outside start.args.soft.now start.args.limit start.args.job (omega (arith, c.if-last-job.true));
+    record {
+        room = c.requires.0;
+        value = lies_outside c.args.soft.now c.args.limit c.args.job (omega (arith, c.if-last-job.true));
       }
 
 pub returns : goal.returns
 returns c =
-    let start = c in record {
+    record {
         room = c.search_column.ensures.room;
-        value = c.search_column.ensures.value ∙ lies_inside start.args.soft.now start.args.limit start.args.job _ (search rules) refl;
+        value = c.search_column.ensures.value ∙ lies_inside c.args.soft.now c.args.limit c.args.job _ (search rules) refl;
       }

@@ -6,6 +6,4 @@ use Rattle.store_batches.proofs.run_job.Goals as goal
 
 pub returns : goal.returns
 returns c =
-    let answer = c in
-    let start = answer in
-    c.note.ensures ∙ ap (noted start.args.job) answer.answer_of-answer.ensures.value
+    c.note.ensures ∙ ap (noted c.args.job) c.answer_of-answer.ensures.value

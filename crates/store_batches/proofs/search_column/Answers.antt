@@ -9,24 +9,18 @@ use Rattle.store_batches.proofs.search_column.Goals as goal
 
 pub search_supercodes-requires : goal.search_supercodes-requires
 search_supercodes-requires c =
-    let told = c in
-    let asked = told in
-    let start = asked in
-    (start.requires.0, start.requires.1, (ready off start.args.level start.args.column.now start.args.limit (sym asked.asked.ensures ∙ told.enum_told-1.given.1)).0)
+    (c.requires.0, c.requires.1, (ready off c.args.level c.args.column.now c.args.limit (sym c.asked.ensures ∙ c.enum_told-1.given.1)).0)
 
 pub returns-in-Done : goal.returns-in-Done
 returns-in-Done c =
-    let told = c in
-    let asked = told in
-    let start = asked in record {
+    record {
         room = c.search_supercodes.ensures.room;
-        value = c.search_supercodes.ensures.value ∙ sym (settled off start.args.level start.args.column.now start.args.limit Refused _ Done (sym told.enum_told-1.given.1 ∙ asked.asked.ensures));
+        value = c.search_supercodes.ensures.value ∙ sym (settled off c.args.level c.args.column.now c.args.limit Refused _ Done (sym c.enum_told-1.given.1 ∙ c.asked.ensures));
       }
 
 pub returns-in-Refused : goal.returns-in-Refused
 returns-in-Refused c =
-    let asked = c in
-    let start = asked in record {
-        room = start.requires.0;
-        value = sym (settled off start.args.level start.args.column.now start.args.limit Refused _ _ (sym c.n-1.given.1 ∙ asked.asked.ensures));
+    record {
+        room = c.requires.0;
+        value = sym (settled off c.args.level c.args.column.now c.args.limit Refused _ _ (sym c.n-1.given.1 ∙ c.asked.ensures));
       }

@@ -11,23 +11,18 @@ use Rattle.store_chip.proofs.decode_page_chip.Goals as goal
 
 pub decode_page-requires : goal.decode_page-requires
 decode_page-requires c =
-    let done = c in
-    let told = done in
-    let args = told.args in
-    let ok = ready off args.soft.now args.limit (eqb (length args.«data».now) 150) (sym told.page_questions.ensures ∙ done.enum_told-1.given.1) in
+    let args = c.args in
+    let ok = ready off args.soft.now args.limit (eqb (length args.«data».now) 150) (sym c.page_questions.ensures ∙ c.enum_told-1.given.1) in
     (ok.long, ok.values, ok.most, eqb-true _ _ ok.has_room)
 
 pub returns-in-Done : goal.returns-in-Done
 returns-in-Done c =
-    let done = c in
-    let told = done in
-    let args = told.args in
+    let args = c.args in
     let made = c.decode_page.ensures in
-    chip_filled args.soft.now args.limit args.«data».now (sym done.enum_told-1.given.1 ∙ told.page_questions.ensures) _ _ made.0 made.1.0 made.1.1
+    chip_filled args.soft.now args.limit args.«data».now (sym c.enum_told-1.given.1 ∙ c.page_questions.ensures) _ _ made.0 made.1.0 made.1.1
 
 pub returns-in-Refused : goal.returns-in-Refused
 returns-in-Refused c =
-    let told = c in
-    let args = told.args in
+    let args = c.args in
     let refusal = c.n-1.given in
-    chip_refused args.soft.now args.limit args.«data».now refusal.0.0 refusal.0.1.0 (sym refusal.1 ∙ told.page_questions.ensures) _ c.refused.ensures
+    chip_refused args.soft.now args.limit args.«data».now refusal.0.0 refusal.0.1.0 (sym refusal.1 ∙ c.page_questions.ensures) _ c.refused.ensures

@@ -18,11 +18,10 @@ outcome_is found = found.search_column-ended.ensures.by_index found.args.level f
 
 pub search_column-ended-requires : goal.search_column-ended-requires
 search_column-ended-requires c =
-    let start = c in
     let tables = c.tables_of-tables.ensures in
-    let allowed = start.requires in record {
-        searchable30 = column_searchable supercode start.args.level allowed.level start.args.soft.now _ _ _ allowed.full allowed.range tables;
-        leading = leading_tables start.args.level allowed.level _ _ _ tables;
+    let allowed = c.requires in record {
+        searchable30 = column_searchable supercode c.args.level allowed.level c.args.soft.now _ _ _ allowed.full allowed.range tables;
+        leading = leading_tables c.args.level allowed.level _ _ _ tables;
         places = record { sums = refl; lens = refl; bits = refl };
       }
 

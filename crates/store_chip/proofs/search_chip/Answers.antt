@@ -9,19 +9,12 @@ use Rattle.store_chip.proofs.search_chip.Goals as goal
 
 pub search_allowed-requires : goal.search_allowed-requires
 search_allowed-requires c =
-    let asked = c in
-    let start = asked in
-    (ready off start.args.level start.args.soft.now start.args.limit (sym asked.asked.ensures ∙ c.enum_told-1.given.1)).0
+    (ready off c.args.level c.args.soft.now c.args.limit (sym c.asked.ensures ∙ c.enum_told-1.given.1)).0
 
 pub returns-in-Done : goal.returns-in-Done
 returns-in-Done c =
-    let told = c in
-    let asked = told in
-    let start = asked in
-    c.search_allowed.ensures ∙ sym (settled off start.args.level start.args.soft.now start.args.limit refused_search _ Done (sym told.enum_told-1.given.1 ∙ asked.asked.ensures))
+    c.search_allowed.ensures ∙ sym (settled off c.args.level c.args.soft.now c.args.limit refused_search _ Done (sym c.enum_told-1.given.1 ∙ c.asked.ensures))
 
 pub returns-in-Refused : goal.returns-in-Refused
 returns-in-Refused c =
-    let asked = c in
-    let start = asked in
-    c.refused.ensures ∙ sym (settled off start.args.level start.args.soft.now start.args.limit refused_search _ _ (sym c.n-1.given.1 ∙ asked.asked.ensures))
+    c.refused.ensures ∙ sym (settled off c.args.level c.args.soft.now c.args.limit refused_search _ _ (sym c.n-1.given.1 ∙ c.asked.ensures))

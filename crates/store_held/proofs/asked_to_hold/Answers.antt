@@ -15,5 +15,4 @@ returns-then-name-ge4 c = simp (eq-eqb _ _ c.if-soft-ne30.false, lt-ltb _ _ c.if
 
 pub returns : goal.returns
 returns c =
-    let tests = c in
-    c.asked.ensures ∙ sym (rw (eq-eqb _ _ tests.if-soft-ne30.false, lt-ltb _ _ tests.if-level-ge4.false, lt-ltb _ _ tests.if-name-ge4.false) refl)
+    c.asked.ensures ∙ sym (rw (eq-eqb _ _ c.if-soft-ne30.false, lt-ltb _ _ c.if-level-ge4.false, lt-ltb _ _ c.if-name-ge4.false) refl)

@@ -26,7 +26,7 @@ begin-requires c = (allowed (goal.at.begin-requires c).In-Done).1.full
 
 pub go_on-gone-requires : goal.go_on-gone-requires
 go_on-gone-requires c =
-    let a = c.before.args in
+    let a = c.args in
     let may = (allowed (goal.at.go_on-gone-requires c).In-Done).1 in
     let none : c.begin.result.limit < a.limit = begun_is_below a.soft.now a.level a.limit _ c.begin.ensures may.some in record {
         limit_lt_limit = (none, may.most);
@@ -41,9 +41,8 @@ bounds-store-name c = (allowed (goal.at.bounds-store-name c).In-Done).0
 
 pub returns-in-Refused : goal.returns-in-Refused
 returns-in-Refused c =
-    let asked = c in
-    let a = asked.args in
-    hold_refused a.name a.soft.now a.level a.limit _ _ _ (sym c.n-1.given.1 ∙ asked.asked_to_hold.ensures)
+    let a = c.args in
+    hold_refused a.name a.soft.now a.level a.limit _ _ _ (sym c.n-1.given.1 ∙ c.asked_to_hold.ensures)
 
 pub returns-in-Found : goal.returns-in-Found
 returns-in-Found c =

@@ -33,7 +33,7 @@ is_ready-requires c = omega (arith, (bounds (goal.at.is_ready-requires c).In-Don
 pub returns-then-not-is_ready : goal.returns-then-not-is_ready
 returns-then-not-is_ready c =
     let told = (goal.at.returns-then-not-is_ready c).In-Done in
-    take_unready _ _ _ (low told) (done told) (λ r. true≢false (sym (c.is_ready.ensures.1 r) ∙ not-true _ c.if-not-is_ready.true))
+    take_unready _ _ _ (low told) (done told) (λ r. true≢false (sym (c.is_ready.ensures.1 r) ∙ c.if-not-is_ready.true))
 
 pub overflow_add-summed : goal.overflow_add-summed
 overflow_add-summed c = let within = (bounds (goal.at.overflow_add-summed c).In-Done).2 in record { fits = omega (arith, within) }
@@ -41,7 +41,7 @@ overflow_add-summed c = let within = (bounds (goal.at.overflow_add-summed c).In-
 pub go_on-gone-requires : goal.go_on-gone-requires
 go_on-gone-requires c = record {
         limit_lt_limit = (omega (arith, (bounds (goal.at.go_on-gone-requires c).In-Done).1), (bounds (goal.at.go_on-gone-requires c).In-Done).2);
-        ready = c.is_ready.ensures.0 (not-false _ c.if-not-is_ready.false);
+        ready = c.is_ready.ensures.0 c.if-not-is_ready.false;
       }
 
 pub offset_bounds-store-i-in-Spent : goal.offset_bounds-store-i-in-Spent
@@ -52,19 +52,16 @@ bounds-store-i-in-Spent c = low (goal.at.bounds-store-i-in-Spent c).In-Done
 
 pub returns-in-Refused : goal.returns-in-Refused
 returns-in-Refused c =
-    let asked = c in
-    take_refused _ _ _ asked.if-name-ge4.false _ _ (sym c.n-1.given.1 ∙ asked.asked_for_more.ensures)
+    take_refused _ _ _ c.if-name-ge4.false _ _ (sym c.n-1.given.1 ∙ c.asked_for_more.ensures)
 
 pub returns-in-Found : goal.returns-in-Found
 returns-in-Found c =
-    let went = c in
     let told = (goal.at.returns-in-Found c).In-Done in
     let found = c.found-1.given in
-    take_found _ _ _ (low told) (done told) went.go_on-gone.result went.go_on-gone.ensures _ _ _
+    take_found _ _ _ (low told) (done told) c.go_on-gone.result c.go_on-gone.ensures _ _ _
     (found_answer _ _ _ _ found.1 (to_z-of_z {w = w16} (record { sfits = search rules }))) c.nothing.result c.nothing.ensures
 
 pub returns-in-Spent : goal.returns-in-Spent
 returns-in-Spent c =
-    let went = c in
     let told = (goal.at.returns-in-Spent c).In-Done in
-    take_spent _ _ _ (low told) (done told) went.go_on-gone.result went.go_on-gone.ensures c.enum_told-in-Spent-1.given.1
+    take_spent _ _ _ (low told) (done told) c.go_on-gone.result c.go_on-gone.ensures c.enum_told-in-Spent-1.given.1

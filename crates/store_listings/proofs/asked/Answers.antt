@@ -20,23 +20,16 @@ returns-then-lengths-gt2000 c = simp (eq-eqb _ _ c.if-soft-ne30.false, eq-eqb _ 
 
 pub returns-then-level-ge4 : goal.returns-then-level-ge4
 returns-then-level-ge4 c =
-    let asked = c in
-    simp (eq-eqb _ _ asked.if-soft-ne30.false, eq-eqb _ _ asked.if-lengths-bits.false, le-leb _ _ asked.if-lengths-lt1.false, le-leb _ _ asked.if-lengths-gt2000.false, le-ltb _ _ c.if-level-ge4.true)
+    simp (eq-eqb _ _ c.if-soft-ne30.false, eq-eqb _ _ c.if-lengths-bits.false, le-leb _ _ c.if-lengths-lt1.false, le-leb _ _ c.if-lengths-gt2000.false, le-ltb _ _ c.if-level-ge4.true)
 
 pub returns-then-bad-lt30 : goal.returns-then-bad-lt30
 returns-then-bad-lt30 c =
     let place = c.first_above-bad in
-    let level = c in
-    let asked = level in
-    let start = asked in
-    let bad : first_above start.args.soft.now 7 < 30 = subst (λ (t : ℕ). t < 30) place.ensures c.if-bad-lt30.true in
-    simp (eq-eqb _ _ asked.if-soft-ne30.false, eq-eqb _ _ asked.if-lengths-bits.false, le-leb _ _ asked.if-lengths-lt1.false, le-leb _ _ asked.if-lengths-gt2000.false, lt-ltb _ _ level.if-level-ge4.false, lt-leb _ _ bad, place.ensures)
+    let bad : first_above c.args.soft.now 7 < 30 = subst (λ (t : ℕ). t < 30) place.ensures c.if-bad-lt30.true in
+    simp (eq-eqb _ _ c.if-soft-ne30.false, eq-eqb _ _ c.if-lengths-bits.false, le-leb _ _ c.if-lengths-lt1.false, le-leb _ _ c.if-lengths-gt2000.false, lt-ltb _ _ c.if-level-ge4.false, lt-leb _ _ bad, place.ensures)
 
 pub returns : goal.returns
 returns c =
     let place = c.first_above-bad in
-    let level = c in
-    let asked = level in
-    let start = asked in
-    let good : 30 ≤ first_above start.args.soft.now 7 = subst (λ (t : ℕ). 30 ≤ t) place.ensures c.if-bad-lt30.false in
-    simp (eq-eqb _ _ asked.if-soft-ne30.false, eq-eqb _ _ asked.if-lengths-bits.false, le-leb _ _ asked.if-lengths-lt1.false, le-leb _ _ asked.if-lengths-gt2000.false, lt-ltb _ _ level.if-level-ge4.false, le-leb _ _ good)
+    let good : 30 ≤ first_above c.args.soft.now 7 = subst (λ (t : ℕ). 30 ≤ t) place.ensures c.if-bad-lt30.false in
+    simp (eq-eqb _ _ c.if-soft-ne30.false, eq-eqb _ _ c.if-lengths-bits.false, le-leb _ _ c.if-lengths-lt1.false, le-leb _ _ c.if-lengths-gt2000.false, lt-ltb _ _ c.if-level-ge4.false, le-leb _ _ good)

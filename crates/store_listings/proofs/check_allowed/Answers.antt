@@ -19,11 +19,10 @@ verdict_is said =
 
 pub judge_column-verdict-requires : goal.judge_column-verdict-requires
 judge_column-verdict-requires c =
-    let start = c in
     let tables = c.tables_of-tables.ensures in
-    let allowed = start.requires in record {
+    let allowed = c.requires in record {
         lines = record { few = allowed.most; both = sym allowed.both };
-        searchable30 = column_searchable (search_of start.args.in-supercodes) start.args.level allowed.level start.args.soft.now _ _ _ allowed.full allowed.range tables;
+        searchable30 = column_searchable (search_of c.args.in-supercodes) c.args.level allowed.level c.args.soft.now _ _ _ allowed.full allowed.range tables;
         room = record { sums = refl; lens = refl; bits = refl };
       }
 

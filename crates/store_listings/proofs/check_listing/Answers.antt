@@ -8,21 +8,14 @@ use Rattle.store_listings.proofs.check_listing.Goals as goal
 
 pub check_allowed-requires : goal.check_allowed-requires
 check_allowed-requires c =
-    let asked = c in
-    let start = asked in
-    ready start.args.level start.args.soft.now start.args.lengths.now start.args.bits.now (sym asked.asked.ensures ∙ c.enum_told-1.given.1)
+    ready c.args.level c.args.soft.now c.args.lengths.now c.args.bits.now (sym c.asked.ensures ∙ c.enum_told-1.given.1)
 
 pub returns-in-Done : goal.returns-in-Done
 returns-in-Done c =
-    let told = c in
-    let asked = told in
-    let start = asked in
     answered
     (c.check_allowed.ensures
-    ∙ sym (settled start.args.level start.args.soft.now start.args.lengths.now start.args.bits.now Refused _ Done (sym told.enum_told-1.given.1 ∙ asked.asked.ensures)))
+    ∙ sym (settled c.args.level c.args.soft.now c.args.lengths.now c.args.bits.now Refused _ Done (sym c.enum_told-1.given.1 ∙ c.asked.ensures)))
 
 pub returns-in-Refused : goal.returns-in-Refused
 returns-in-Refused c =
-    let asked = c in
-    let start = asked in
-    answered (sym (settled start.args.level start.args.soft.now start.args.lengths.now start.args.bits.now Refused _ _ (sym c.n-1.given.1 ∙ asked.asked.ensures)))
+    answered (sym (settled c.args.level c.args.soft.now c.args.lengths.now c.args.bits.now Refused _ _ (sym c.n-1.given.1 ∙ c.asked.ensures)))

@@ -14,29 +14,22 @@ use Rattle.store_pages.proofs.ask_either.Goals as goal
 
 pub way_of-requires : goal.way_of-requires
 way_of-requires c =
-    let told = c in
-    let args = told.args in
-    (ready (chosen args.second _) args.soft.now args.limit (eqb (length args.symbols-1.now) 252) (sym told.page_questions.ensures ∙ c.enum_told-1.given.1)).in_range
+    let args = c.args in
+    (ready (chosen args.second _) args.soft.now args.limit (eqb (length args.symbols-1.now) 252) (sym c.page_questions.ensures ∙ c.enum_told-1.given.1)).in_range
 
 pub ask_page-requires : goal.ask_page-requires
 ask_page-requires c =
-    let done = c in
-    let told = done in
-    let args = told.args in
-    let ok = ready (chosen args.second _) args.soft.now args.limit (eqb (length args.symbols-1.now) 252) (sym told.page_questions.ensures ∙ done.enum_told-1.given.1) in
-    (ok.long, ok.values, subst⁻¹ (λ (l : ℕ). l ≤ 2000) c.Way-of.ensures.0.0 ok.most, eqb-true _ _ ok.has_room)
+    let args = c.args in
+    let ok = ready (chosen args.second _) args.soft.now args.limit (eqb (length args.symbols-1.now) 252) (sym c.page_questions.ensures ∙ c.enum_told-1.given.1) in
+    (ok.long, ok.values, subst⁻¹ (λ (l : ℕ). l ≤ 2000) c.way_of.ensures.limit_value.0 ok.most, eqb-true _ _ ok.has_room)
 
 pub returns-in-Done : goal.returns-in-Done
 returns-in-Done c =
-    let made = c in
-    let told = made in
-    let start = told in
-    let args = start.args in
-    filled_in_its_way symbol_buffer made.Way-of.result args.second args.threshold start.ranges.threshold args.in-supercodes args.soft.now args.limit args.symbols-1.now made.Way-of.ensures.0 (sym made.enum_told-1.given.1 ∙ told.page_questions.ensures) _ _ c.ask_page.ensures.value c.ask_page.ensures.symbols_after
+    let args = c.args in
+    filled_in_its_way symbol_buffer c.way_of.result args.second args.threshold c.ranges.threshold args.in-supercodes args.soft.now args.limit args.symbols-1.now c.way_of.ensures.limit_value (sym c.enum_told-1.given.1 ∙ c.page_questions.ensures) _ _ c.ask_page.ensures.value c.ask_page.ensures.symbols_after
 
 pub returns-in-Refused : goal.returns-in-Refused
 returns-in-Refused c =
-    let start = c in
-    let args = start.args in
+    let args = c.args in
     let told = c.n-1.given in
-    as_handed_on args.second args.threshold start.ranges.threshold (search_of args.in-supercodes) (refused_as (decoded_page (chosen args.second _) (search_of args.in-supercodes) args.soft.now args.limit) symbol_buffer (chosen args.second _) args.soft.now args.limit args.symbols-1.now told.0.0 told.0.1.0 (sym told.1 ∙ c.page_questions.ensures) _ c.refused.ensures)
+    as_handed_on args.second args.threshold c.ranges.threshold (search_of args.in-supercodes) (refused_as (decoded_page (chosen args.second _) (search_of args.in-supercodes) args.soft.now args.limit) symbol_buffer (chosen args.second _) args.soft.now args.limit args.symbols-1.now told.0.0 told.0.1.0 (sym told.1 ∙ c.page_questions.ensures) _ c.refused.ensures)

@@ -6,4 +6,4 @@ use Rattle.store_pages.proofs.Asked.{as_handed_on}
 use Rattle.store_pages.proofs.ask_page_list.Goals as goal
 
 pub returns : goal.returns
-returns c = let start = c.before in as_handed_on true start.args.threshold start.ranges.threshold supercode c.ask_either.ensures
+returns c = as_handed_on true c.args.threshold c.ranges.threshold supercode c.ask_either.ensures

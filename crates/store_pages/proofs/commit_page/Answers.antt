@@ -44,8 +44,7 @@ pack-requires c = (symbols_are_a_word c.args.symbols.now c.if-symbols-ne252.fals
 
 pub returns : goal.returns
 returns c =
-    let asked = c in
-    let symbols = asked.args.symbols.now in
-    let good : 252 ≤ first_above symbols 63 = omega (arith, asked.first_above-above.ensures, asked.if-above-lt252.false) in
-    let words : 4 ≤ no_word_in symbols = omega (arith, asked.lowest_no_word-level.ensures, asked.if-level-lt4.false) in
-    done (simp (eq-eqb _ _ asked.if-symbols-ne252.false, eq-eqb _ _ asked.if-data-ne150.false, le-leb _ _ good, le-leb _ _ words)) c.pack.ensures
+    let symbols = c.args.symbols.now in
+    let good : 252 ≤ first_above symbols 63 = omega (arith, c.first_above-above.ensures, c.if-above-lt252.false) in
+    let words : 4 ≤ no_word_in symbols = omega (arith, c.lowest_no_word-level.ensures, c.if-level-lt4.false) in
+    done (simp (eq-eqb _ _ c.if-symbols-ne252.false, eq-eqb _ _ c.if-data-ne150.false, le-leb _ _ good, le-leb _ _ words)) c.pack.ensures

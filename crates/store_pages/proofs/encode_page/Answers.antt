@@ -15,5 +15,4 @@ encode_page-requires c = (c.if-data-ne150.false, c.if-out-ne252.false)
 
 pub returns : goal.returns
 returns c =
-    let asked = c in
-    done (simp (eq-eqb _ _ asked.if-data-ne150.false, eq-eqb _ _ asked.if-out-ne252.false)) c.encode_page.ensures
+    done (simp (eq-eqb _ _ c.if-data-ne150.false, eq-eqb _ _ c.if-out-ne252.false)) c.encode_page.ensures

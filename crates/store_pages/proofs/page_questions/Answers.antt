@@ -30,28 +30,27 @@ pub returns-then-soft-ne1890 : goal.returns-then-soft-ne1890
 returns-then-soft-ne1890 c = simp (ne_eqb _ _ c.if-soft-ne1890.true)
 
 pub returns-then-not-room : goal.returns-then-not-room
-returns-then-not-room c = simp (eq-eqb _ _ c.if-soft-ne1890.false, not-true c.args.room c.if-not-room.true)
+returns-then-not-room c = simp (eq-eqb _ _ c.if-soft-ne1890.false, c.if-not-room.true)
 
 pub returns-then-limit-lt1 : goal.returns-then-limit-lt1
 returns-then-limit-lt1 c =
     let low : c.args.limit < 1 = omega (arith, c.if-limit-lt1.true) in
-    simp (eq-eqb _ _ c.if-soft-ne1890.false, not-false c.args.room c.if-not-room.false, lt-leb _ _ low)
+    simp (eq-eqb _ _ c.if-soft-ne1890.false, c.if-not-room.false, lt-leb _ _ low)
 
 pub returns-then-limit-gt2000 : goal.returns-then-limit-gt2000
 returns-then-limit-gt2000 c =
     let args = c.args in
     let some : 1 ≤ args.limit = omega (arith, c.if-limit-lt1.false) in
     let high : 2000 < args.limit = omega (arith, c.if-limit-gt2000.true) in
-    simp (eq-eqb _ _ c.if-soft-ne1890.false, not-false args.room c.if-not-room.false, le-leb _ _ some, lt-leb _ _ high)
+    simp (eq-eqb _ _ c.if-soft-ne1890.false, c.if-not-room.false, le-leb _ _ some, lt-leb _ _ high)
 
 pub returns-then-not-threshold_allowed : goal.returns-then-not-threshold_allowed
 returns-then-not-threshold_allowed c =
-    let start = c in
-    let args = start.args in
+    let args = c.args in
     let some : 1 ≤ args.limit = omega (arith, c.if-limit-lt1.false) in
     let most : args.limit ≤ 2000 = omega (arith, c.if-limit-gt2000.false) in
-    let no = allowed_is args.second args.threshold start.ranges.threshold c.threshold_allowed.ensures ∙ not-true _ c.if-not-threshold_allowed.true in
-    simp (eq-eqb _ _ c.if-soft-ne1890.false, not-false args.room c.if-not-room.false, le-leb _ _ some, le-leb _ _ most, no)
+    let no = allowed_is args.second args.threshold c.ranges.threshold c.threshold_allowed.ensures ∙ c.if-not-threshold_allowed.true in
+    simp (eq-eqb _ _ c.if-soft-ne1890.false, c.if-not-room.false, le-leb _ _ some, le-leb _ _ most, no)
 
 pub returns-then-bad-lt1890 : goal.returns-then-bad-lt1890
 returns-then-bad-lt1890 c =

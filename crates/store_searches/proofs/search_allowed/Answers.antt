@@ -14,39 +14,28 @@ tables_of-tables-requires c = c.requires.0.level
 
 pub tables_of-hard-requires : goal.tables_of-hard-requires
 tables_of-hard-requires c =
-    let made = c in
-    let level = made.requires.0.level in record {
+    let level = c.requires.0.level in record {
         level_bound = level;
-        by_index = level_table_near _ _ level _ _ _ made.tables_of-tables.ensures;
+        by_index = level_table_near _ _ level _ _ _ c.tables_of-tables.ensures;
       }
 
 pub way_of-way-requires : goal.way_of-way-requires
 way_of-way-requires c =
-    let start = c in
-    ap threshold_allowed (handed_on start.args.second start.args.threshold start.ranges.threshold) ∙ start.requires.1
+    ap threshold_allowed (handed_on c.args.second c.args.threshold c.ranges.threshold) ∙ c.requires.1
 
 pub search_by-found-requires : goal.search_by-found-requires
 search_by-found-requires c =
-    let way = c in
-    let hard = way in
-    let made = hard in
-    let start = made in
-    let allowed = start.requires.0 in record {
-        limit_bound = subst⁻¹ (λ (l : ℕ). l ≤ 2000) way.Way-of.ensures.0.0 allowed.most;
-        searchable30 = column_searchable (search_of start.args.in-supercodes) start.args.level allowed.level start.args.soft.now _ _ _ allowed.full allowed.range made.tables_of-tables.ensures;
-        by_index = (start.args.level, allowed.level, λ with_list. hard.tables_of-hard.ensures.2 (sym way.Way-of.ensures.1 ∙ with_list));
+    let allowed = c.requires.0 in record {
+        limit_bound = subst⁻¹ (λ (l : ℕ). l ≤ 2000) c.way_of-way.ensures.limit_value.0 allowed.most;
+        searchable30 = column_searchable (search_of c.args.in-supercodes) c.args.level allowed.level c.args.soft.now _ _ _ allowed.full allowed.range c.tables_of-tables.ensures;
+        by_index = (c.args.level, allowed.level, λ with_list. c.tables_of-hard.ensures.2 (sym c.way_of-way.ensures.second_value ∙ with_list));
         room = record { sums = refl; lens = refl; bits = refl };
       }
 
 pub returns : goal.returns
 returns c =
-    let found = c in
-    let way = found in
-    let hard = way in
-    let made = hard in
-    let start = made in
-    let allowed = start.requires.0 in
-    let search = search_of start.args.in-supercodes in
-    let is = way.Way-of.ensures in
-    c.as_answer.ensures ∙ answered_as _ (found.search_by-found.ensures.value search start.args.level allowed.level made.tables_of-tables.ensures (λ with_list. hard.tables_of-hard.ensures.2 (sym is.1 ∙ with_list)))
-    ∙ by_its_way way.Way-of.result _ _ (is.0.2 ∙ handed_on start.args.second start.args.threshold start.ranges.threshold) is.0.0 search start.args.soft.now start.args.level
+    let allowed = c.requires.0 in
+    let search = search_of c.args.in-supercodes in
+    let is = c.way_of-way.ensures in
+    c.as_answer.ensures ∙ answered_as _ (c.search_by-found.ensures.value search c.args.level allowed.level c.tables_of-tables.ensures (λ with_list. c.tables_of-hard.ensures.2 (sym is.1 ∙ with_list)))
+    ∙ by_its_way c.way_of-way.result _ _ (is.0.2 ∙ handed_on c.args.second c.args.threshold c.ranges.threshold) is.0.0 search c.args.soft.now c.args.level

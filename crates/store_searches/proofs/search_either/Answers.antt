@@ -15,24 +15,17 @@ use Rattle.store_searches.proofs.search_either.Goals as goal
 
 pub search_allowed-requires : goal.search_allowed-requires
 search_allowed-requires c =
-    let asked = c in
-    let start = asked in
-    ready (chosen start.args.second (to_z w64 (of_z w64 start.args.threshold))) start.args.level start.args.soft.now start.args.limit (sym asked.asked.ensures ∙ c.enum_told-1.given.1)
+    ready (chosen c.args.second (to_z w64 (of_z w64 c.args.threshold))) c.args.level c.args.soft.now c.args.limit (sym c.asked.ensures ∙ c.enum_told-1.given.1)
 
 pub returns-in-Done : goal.returns-in-Done
 returns-in-Done c =
-    let told = c in
-    let asked = told in
-    let start = asked in
-    let handed = chosen start.args.second (to_z w64 (of_z w64 start.args.threshold)) in
+    let handed = chosen c.args.second (to_z w64 (of_z w64 c.args.threshold)) in
     c.search_allowed.ensures
-    ∙ sym (settled handed start.args.level start.args.soft.now start.args.limit Unanswered _ Done (sym told.enum_told-1.given.1 ∙ asked.asked.ensures))
-    ∙ ap (λ (choice : Choice). search_answer choice (search_of start.args.in-supercodes) start.args.level start.args.soft.now start.args.limit) (handed_on start.args.second start.args.threshold start.ranges.threshold)
+    ∙ sym (settled handed c.args.level c.args.soft.now c.args.limit Unanswered _ Done (sym c.enum_told-1.given.1 ∙ c.asked.ensures))
+    ∙ ap (λ (choice : Choice). search_answer choice (search_of c.args.in-supercodes) c.args.level c.args.soft.now c.args.limit) (handed_on c.args.second c.args.threshold c.ranges.threshold)
 
 pub returns-in-Refused : goal.returns-in-Refused
 returns-in-Refused c =
-    let asked = c in
-    let start = asked in
-    let handed = chosen start.args.second (to_z w64 (of_z w64 start.args.threshold)) in
-    sym (settled handed start.args.level start.args.soft.now start.args.limit Unanswered _ _ (sym c.n-1.given.1 ∙ asked.asked.ensures))
-    ∙ ap (λ (choice : Choice). search_answer choice (search_of start.args.in-supercodes) start.args.level start.args.soft.now start.args.limit) (handed_on start.args.second start.args.threshold start.ranges.threshold)
+    let handed = chosen c.args.second (to_z w64 (of_z w64 c.args.threshold)) in
+    sym (settled handed c.args.level c.args.soft.now c.args.limit Unanswered _ _ (sym c.n-1.given.1 ∙ c.asked.ensures))
+    ∙ ap (λ (choice : Choice). search_answer choice (search_of c.args.in-supercodes) c.args.level c.args.soft.now c.args.limit) (handed_on c.args.second c.args.threshold c.ranges.threshold)

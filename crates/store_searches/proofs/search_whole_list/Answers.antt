@@ -11,5 +11,4 @@ use Rattle.store_searches.proofs.search_whole_list.Goals as goal
 
 pub returns : goal.returns
 returns c =
-    let start = c in
-    answered (c.search_either.ensures ∙ ap (λ (choice : Choice). search_answer choice whole start.args.level start.args.soft.now start.args.limit) (handed_on true start.args.threshold start.ranges.threshold))
+    answered (c.search_either.ensures ∙ ap (λ (choice : Choice). search_answer choice whole c.args.level c.args.soft.now c.args.limit) (handed_on true c.args.threshold c.ranges.threshold))

@@ -18,12 +18,10 @@ without_a_word o e taken pushed = subst⁻¹ (λ (o : SearchOutcome). bit_xor (b
 
 pub returns-in-Found : goal.returns-in-Found
 returns-in-Found c =
-    let start = c in
     let told = c.enum_told-1.given in
-    ap₂ (λ (x b : ℕ). bit_xor x (b * 2 ^ 47 % 2 ^ 64)) c.folded.ensures c.bit_of-pushed.ensures ∙ of_a_word start.args.ended.found _ _ _ told.1 start.args.ended.count start.args.ended.pushed
+    ap₂ (λ (x b : ℕ). bit_xor x (b * 2 ^ 47 % 2 ^ 64)) c.folded.ensures c.bit_of-pushed.ensures ∙ of_a_word c.args.ended.found _ _ _ told.1 c.args.ended.count c.args.ended.pushed
 
 pub returns-in-Spent : goal.returns-in-Spent
 returns-in-Spent c =
-    let start = c in
     let told = c.enum_told-in-Spent-1.given in
-    ap (λ (b : ℕ). bit_xor (bit_xor (start.args.ended.count * 2 ^ 1 % 2 ^ 64) b) (2 ^ 46)) c.bit_of-pushed.ensures ∙ without_a_word start.args.ended.found told.1 start.args.ended.count start.args.ended.pushed
+    ap (λ (b : ℕ). bit_xor (bit_xor (c.args.ended.count * 2 ^ 1 % 2 ^ 64) b) (2 ^ 46)) c.bit_of-pushed.ensures ∙ without_a_word c.args.ended.found told.1 c.args.ended.count c.args.ended.pushed

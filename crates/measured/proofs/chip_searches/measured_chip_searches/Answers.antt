@@ -17,27 +17,20 @@ returns-then-limit-gt2000 c = simp (lt-ltb _ _ c.if-level-ge4.false, lt-leb _ _ 
 
 pub returns-then-first_above-soft : goal.returns-then-first_above-soft
 returns-then-first_above-soft c =
-    let told = c in
-    let limited = told in
-    let soft = limited.args.soft.now in
-    let bad : first_above soft 7 < length soft = subst (λ (t : ℕ). t < length soft) told.first_above.ensures c.if-first_above-soft.true in
-    simp (lt-ltb _ _ limited.if-level-ge4.false, le-leb _ _ limited.if-limit-gt2000.false, lt-leb _ _ bad)
+    let soft = c.args.soft.now in
+    let bad : first_above soft 7 < length soft = subst (λ (t : ℕ). t < length soft) c.first_above.ensures c.if-first_above-soft.true in
+    simp (lt-ltb _ _ c.if-level-ge4.false, le-leb _ _ c.if-limit-gt2000.false, lt-leb _ _ bad)
 
 pub search_all-requires : goal.search_all-requires
 search_all-requires c =
-    let told = c in
-    let limited = told in
-    let soft = limited.args.soft.now in
-    let values : length soft ≤ first_above soft 7 = subst (λ (t : ℕ). length soft ≤ t) told.first_above.ensures c.if-first_above-soft.false in record {
-        level_bound = limited.if-level-ge4.false;
+    let soft = c.args.soft.now in
+    let values : length soft ≤ first_above soft 7 = subst (λ (t : ℕ). length soft ≤ t) c.first_above.ensures c.if-first_above-soft.false in record {
+        level_bound = c.if-level-ge4.false;
         by_index = λ k h. below_first soft 7 k (omega arith);
       }
 
 pub returns : goal.returns
 returns c =
-    let good = c in
-    let told = good in
-    let limited = told in
-    let soft = limited.args.soft.now in
-    let values : length soft ≤ first_above soft 7 = subst (λ (t : ℕ). length soft ≤ t) told.first_above.ensures good.if-first_above-soft.false in
-    simp (lt-ltb _ _ limited.if-level-ge4.false, le-leb _ _ limited.if-limit-gt2000.false, le-leb _ _ values, c.search_all.ensures)
+    let soft = c.args.soft.now in
+    let values : length soft ≤ first_above soft 7 = subst (λ (t : ℕ). length soft ≤ t) c.first_above.ensures c.if-first_above-soft.false in
+    simp (lt-ltb _ _ c.if-level-ge4.false, le-leb _ _ c.if-limit-gt2000.false, le-leb _ _ values, c.search_all.ensures)

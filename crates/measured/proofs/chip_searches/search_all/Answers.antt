@@ -24,39 +24,34 @@ loop-a-init c = (search rules, search rules, record { sums = refl; lens = refl; 
 
 pub search_column-ended-requires : goal.search_column-ended-requires
 search_column-ended-requires c =
-    let at_loop = c in
-    let a = start at_loop in
+    let a = start c in
     let soft = a.args.soft.now in
-    let from = at_loop.loop-a.a in
-    let fits : from + 30 ≤ length soft = omega (arith, at_loop.loop-a.invariant.0) in
-    let tables = (made_of at_loop).tables-of.ensures in record {
+    let from = c.loop-a.a in
+    let fits : from + 30 ≤ length soft = omega (arith, c.loop-a.invariant.0) in
+    let tables = (made_of c).tables-of.ensures in record {
         searchable30 = column_searchable supercode a.args.level a.requires.level_bound (take (from + 30 - from) (drop from soft)) _ _ _ (part_long soft from fits) (part_range soft from fits a.requires.by_index) tables;
         leading = leading_tables a.args.level a.requires.level_bound _ _ _ tables;
-        places = at_loop.loop-a.invariant.2;
+        places = c.loop-a.invariant.2;
       }
 
 pub loop-a-preserved : goal.loop-a-preserved
 loop-a-preserved c =
-    let found = c in
-    let turn = found in
-    let at_loop = turn in
-    let a = start at_loop in
+    let a = start c in
     let soft = a.args.soft.now in
-    let from = at_loop.loop-a.a in
-    let inv = at_loop.loop-a.invariant in
-    let fits : from + 30 ≤ length soft = omega (arith, inv.0, turn.loop-a-test.true) in
+    let from = c.loop-a.a in
+    let inv = c.loop-a.invariant in
+    let fits : from + 30 ≤ length soft = omega (arith, inv.0, c.loop-a-test.true) in
     let whole : (from + 30) % 30 ≡ 0 = omega (arith, inv.1) in
-    let outcome = found.search_column-ended.ensures.by_index a.args.level a.requires.level_bound (made_of at_loop).tables-of.ensures in (
+    let outcome = c.search_column-ended.ensures.by_index a.args.level a.requires.level_bound (made_of c).tables-of.ensures in (
       fits,
       whole,
-      found.search_column-ended.ensures.places_2,
+      c.search_column-ended.ensures.places_2,
       one_more_folded (chip_number a.args.level a.args.limit) soft from _ _ inv.1 inv.3 (c.chip_folded-fold.ensures ∙ ap chip_folded outcome),
     )
 
 pub returns : goal.returns
 returns c =
-    let at_loop = c in
-    let inv = at_loop.loop-a.invariant in
-    let soft = (start at_loop).args.soft.now in
-    let last : length soft - at_loop.loop-a.a < 30 = omega (arith, c.loop-a-test.false) in
+    let inv = c.loop-a.invariant in
+    let soft = (start c).args.soft.now in
+    let last : length soft - c.loop-a.a < 30 = omega (arith, c.loop-a-test.false) in
     all_folded _ soft _ _ inv.1 inv.0 last inv.3
