@@ -13,7 +13,7 @@ returns-then-word-eq0 c =
     let found = c.search_supercodes in
     let args = c.args in record {
         room = found.ensures.0;
-        value = ends_in_zero args.level args.column.now found.result found.ensures.1 _ _ _ c.word-1.given.1 c.if-word-eq0.true;
+        value = ends_in_zero args.level args.column.now found.result found.ensures.1 _ _ _ c.in-Found.is c.if-word-eq0.true;
       }
 
 pub returns-else-word-eq0 : goal.returns-else-word-eq0
@@ -21,7 +21,7 @@ returns-else-word-eq0 c =
     let found = c.search_supercodes in
     let args = c.args in record {
         room = found.ensures.0;
-        value = ends_in_another args.level args.column.now found.result found.ensures.1 _ _ _ c.word-1.given.1 c.if-word-eq0.false;
+        value = ends_in_another args.level args.column.now found.result found.ensures.1 _ _ _ c.in-Found.is c.if-word-eq0.false;
       }
 
 pub returns-in-Refused : goal.returns-in-Refused
@@ -29,5 +29,5 @@ returns-in-Refused c =
     let found = c.search_supercodes in
     let args = c.args in record {
         room = found.ensures.0;
-        value = ends_spent args.level args.column.now found.result found.ensures.1 _ _ c.enum_told-1.given.1;
+        value = ends_spent args.level args.column.now found.result found.ensures.1 _ _ c.in-Refused.is;
       }

@@ -5,10 +5,10 @@ use borrow.Author.Rules.{rules}
 use Rattle.checker_entries.proofs.numbers_of_listing.Goals as goal
 
 pub returns-in-Accepted : goal.returns-in-Accepted
-returns-in-Accepted c = sym (ap listing_told_of c.enum_told-1.given.1)
+returns-in-Accepted c = sym (ap listing_told_of c.in-Accepted.is)
 
 pub returns-in-Wrong : goal.returns-in-Wrong
-returns-in-Wrong c = sym (ap listing_told_of c.answer-1.given.1)
+returns-in-Wrong c = sym (ap listing_told_of c.in-Wrong.is)
 
 pub returns-in-Refused : goal.returns-in-Refused
 returns-in-Refused c = sym (ap listing_told_of c.answer-in-Refused-1.given.1)

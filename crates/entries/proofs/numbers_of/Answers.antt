@@ -5,7 +5,7 @@ use borrow.Author.Rules.{rules}
 use Rattle.entries.proofs.numbers_of.Goals as goal
 
 pub returns-in-Value : goal.returns-in-Value
-returns-in-Value c = sym (ap told_of c.answer-1.given.1)
+returns-in-Value c = sym (ap told_of c.in-Value.is)
 
 pub returns-in-Refused : goal.returns-in-Refused
 returns-in-Refused c = sym (ap told_of c.answer-in-Refused-1.given.1)

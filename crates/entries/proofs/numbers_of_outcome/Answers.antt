@@ -5,7 +5,7 @@ use borrow.Author.Rules.{rules}
 use Rattle.entries.proofs.numbers_of_outcome.Goals as goal
 
 pub returns-in-Done : goal.returns-in-Done
-returns-in-Done c = sym (ap reply_of c.enum_told-1.given.1)
+returns-in-Done c = sym (ap reply_of c.in-Done.is)
 
 pub returns-in-Refused : goal.returns-in-Refused
-returns-in-Refused c = sym (ap reply_of c.outcome-1.given.1)
+returns-in-Refused c = sym (ap reply_of c.in-Refused.is)

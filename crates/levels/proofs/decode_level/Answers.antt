@@ -23,10 +23,10 @@ settle_level-requires c =
 pub returns : goal.returns
 returns c =
     let way = c.args.way in
-    let given = c.settle_level.ensures in (
+    (
       level_done (way_reader way) c.args.level _ _ c.args.work.now _ _ (to_z-of_z c.ranges.lowest)
-          (given.0 (map (way_reader way c.args.level) c.args.work.now) _ (length-map c.args.work.now (way_reader way c.args.level) ∙ c.requires.2.many) c.read_row-read.ensures.0),
-      subst (λ (n : ℕ). n ≤ 126000) (sym given.1.0) c.read_row-read.ensures.0.few,
-      given.1.1,
+          (c.settle_level.ensures.ended (map (way_reader way c.args.level) c.args.work.now) _ (length-map c.args.work.now (way_reader way c.args.level) ∙ c.requires.2.many) c.read_row-read.ensures.0),
+      subst (λ (n : ℕ). n ≤ 126000) (sym c.settle_level.ensures.count_value.0) c.read_row-read.ensures.0.few,
+      c.settle_level.ensures.count_value.1,
       c.read_row-read.ensures.1,
     )

@@ -60,6 +60,5 @@ returns c =
     let level = c.if-level-ge4.false in
     let in_range = allowed_is start.args.second start.args.threshold start.ranges.threshold c.threshold_allowed.ensures ∙ c.if-not-threshold_allowed.false in
     let values : length soft ≤ first_above soft 7 = subst (λ (t : ℕ). length soft ≤ t) c.first_above.ensures c.if-first_above-soft.false in
-    let is = c.way_of-way.ensures in
-    let found = c.search_all.ensures (named start.args.supercode) start.args.level level c.tables_of-tables.ensures (λ with_list. c.tables_of-hard.ensures.2 (sym is.1 ∙ with_list)) ∙ folded_by_its_way c.way_of-way.result _ _ (is.0.2 ∙ handed_on start.args.second start.args.threshold start.ranges.threshold) is.0.0 (named start.args.supercode) soft start.args.level in
+    let found = c.search_all.ensures (named start.args.supercode) start.args.level level c.tables_of-tables.ensures (λ with_list. c.tables_of-hard.ensures.2 (sym c.way_of-way.ensures.second_value ∙ with_list)) ∙ folded_by_its_way c.way_of-way.result _ _ (c.way_of-way.ensures.limit_value.2 ∙ handed_on start.args.second start.args.threshold start.ranges.threshold) c.way_of-way.ensures.limit_value.0 (named start.args.supercode) soft start.args.level in
     simp (lt-ltb _ _ level, le-leb _ _ c.if-limit-gt2000.false, in_range, le-leb _ _ values, found)

@@ -18,17 +18,17 @@ pub reimage-requires : goal.reimage-requires
 reimage-requires c =
     record {
         level_bound = c.requires.0;
-        column_bound = subst WordInRange c.found-1.given.1 c.requires.1;
+        column_bound = subst WordInRange c.in-Found.is c.requires.1;
       }
 
 pub overflow_cast-result : goal.overflow_cast-result
 overflow_cast-result c =
-    record { fits = omega (arith, c.reimage.ensures, reimaged_lt short sound _ _ c.requires.0 (subst WordInRange c.found-1.given.1 c.requires.1)) }
+    record { fits = omega (arith, c.reimage.ensures, reimaged_lt short sound _ _ c.requires.0 (subst WordInRange c.in-Found.is c.requires.1)) }
 
 pub returns-in-Found : goal.returns-in-Found
 unfolding symbol mark count lows lowest_from
 returns-in-Found c =
-    let e = sym c.found-1.given.1 in (
+    let e = sym c.in-Found.is in (
       c.reimage.ensures ∙ ap (λ (x : SearchOutcome). symbol short c.args.level (as_reading c.args.limit x)) e,
       ap (λ (x : SearchOutcome). flag (mark (as_reading c.args.limit x))) e,
       ap (λ (x : SearchOutcome). count (as_reading c.args.limit x)) e,
@@ -38,7 +38,7 @@ returns-in-Found c =
 pub returns-in-Spent : goal.returns-in-Spent
 unfolding symbol mark count lows lowest_from
 returns-in-Spent c =
-    let e = sym c.enum_told-1.given.1 in (
+    let e = sym c.in-Spent.is in (
       ap (λ (x : SearchOutcome). symbol short c.args.level (as_reading c.args.limit x)) e,
       ap (λ (x : SearchOutcome). flag (mark (as_reading c.args.limit x))) e,
       ap (λ (x : SearchOutcome). count (as_reading c.args.limit x)) e,

@@ -12,10 +12,10 @@ pub returned_number-requires : goal.returned_number-requires
 returned_number-requires c = (omega arith, omega arith)
 
 pub returned_number-requires-in-Refused : goal.returned_number-requires-in-Refused
-returned_number-requires-in-Refused c = subst SmallOutcome c.outcome-1.given.1 c.requires
+returned_number-requires-in-Refused c = subst SmallOutcome c.in-Refused.is c.requires
 
 pub returns-in-Done : goal.returns-in-Done
-returns-in-Done c = c.returned_number.ensures ∙ sym (ap (λ (o : Outcome). returned (number o) (place o)) c.enum_told-1.given.1)
+returns-in-Done c = c.returned_number.ensures ∙ sym (ap (λ (o : Outcome). returned (number o) (place o)) c.in-Done.is)
 
 pub returns-in-Refused : goal.returns-in-Refused
-returns-in-Refused c = c.returned_number-in-Refused.ensures ∙ sym (ap (λ (o : Outcome). returned (number o) (place o)) c.outcome-1.given.1)
+returns-in-Refused c = c.returned_number-in-Refused.ensures ∙ sym (ap (λ (o : Outcome). returned (number o) (place o)) c.in-Refused.is)

@@ -17,7 +17,7 @@ pub returns-in-Found : goal.returns-in-Found
 returns-in-Found c =
     let fits : SFits w16 c.answer-1.given.0.1.1.0 = record { sfits = search rules } in
     let wide : SFits w64 c.answer-1.given.0.1.1.0 = sfits_widen tt fits in
-    found_noted c.args.job c.args.answer _ _ _ _ c.answer-1.given.1 (ap (λ (z : ℤ). to_z w64 (of_z w64 z)) (to_z-of_z fits) ∙ to_z-of_z wide)
+    found_noted c.args.job c.args.answer _ _ _ _ c.in-Found.is (ap (λ (z : ℤ). to_z w64 (of_z w64 z)) (to_z-of_z fits) ∙ to_z-of_z wide)
 
 pub returns-in-Refused : goal.returns-in-Refused
 returns-in-Refused c =

@@ -9,18 +9,18 @@ use Rattle.store_batches.proofs.search_column.Goals as goal
 
 pub search_supercodes-requires : goal.search_supercodes-requires
 search_supercodes-requires c =
-    (c.requires.0, c.requires.1, (ready off c.args.level c.args.column.now c.args.limit (sym c.asked.ensures ∙ c.enum_told-1.given.1)).0)
+    (c.requires.0, c.requires.1, (ready off c.args.level c.args.column.now c.args.limit (sym c.asked.ensures ∙ c.in-Done.is)).0)
 
 pub returns-in-Done : goal.returns-in-Done
 returns-in-Done c =
     record {
         room = c.search_supercodes.ensures.room;
-        value = c.search_supercodes.ensures.value ∙ sym (settled off c.args.level c.args.column.now c.args.limit Refused _ Done (sym c.enum_told-1.given.1 ∙ c.asked.ensures));
+        value = c.search_supercodes.ensures.value ∙ sym (settled off c.args.level c.args.column.now c.args.limit Refused _ Done (sym c.in-Done.is ∙ c.asked.ensures));
       }
 
 pub returns-in-Refused : goal.returns-in-Refused
 returns-in-Refused c =
     record {
         room = c.requires.0;
-        value = sym (settled off c.args.level c.args.column.now c.args.limit Refused _ _ (sym c.n-1.given.1 ∙ c.asked.ensures));
+        value = sym (settled off c.args.level c.args.column.now c.args.limit Refused _ _ (sym c.in-Refused.is ∙ c.asked.ensures));
       }

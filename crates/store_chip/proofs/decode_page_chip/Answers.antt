@@ -12,14 +12,13 @@ use Rattle.store_chip.proofs.decode_page_chip.Goals as goal
 pub decode_page-requires : goal.decode_page-requires
 decode_page-requires c =
     let args = c.args in
-    let ok = ready off args.soft.now args.limit (eqb (length args.«data».now) 150) (sym c.page_questions.ensures ∙ c.enum_told-1.given.1) in
+    let ok = ready off args.soft.now args.limit (eqb (length args.«data».now) 150) (sym c.page_questions.ensures ∙ c.in-Done.is) in
     (ok.long, ok.values, ok.most, eqb-true _ _ ok.has_room)
 
 pub returns-in-Done : goal.returns-in-Done
 returns-in-Done c =
     let args = c.args in
-    let made = c.decode_page.ensures in
-    chip_filled args.soft.now args.limit args.«data».now (sym c.enum_told-1.given.1 ∙ c.page_questions.ensures) _ _ made.0 made.1.0 made.1.1
+    chip_filled args.soft.now args.limit args.«data».now (sym c.in-Done.is ∙ c.page_questions.ensures) _ _ c.decode_page.ensures.page_value c.decode_page.ensures.pushed_value c.decode_page.ensures.data_after
 
 pub returns-in-Refused : goal.returns-in-Refused
 returns-in-Refused c =

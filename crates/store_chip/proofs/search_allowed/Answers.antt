@@ -34,9 +34,9 @@ returns-in-Found c =
 pub returns-then-ended-limit : goal.returns-then-ended-limit
 returns-then-ended-limit c =
     let found = (goal.at.returns-then-ended-limit c).After-search_column-ended in
-    empty_is_13 found.args.limit _ _ (outcome_is found) c.enum_told-1.given.1 c.if-ended-limit.true
+    empty_is_13 found.args.limit _ _ (outcome_is found) c.in-Spent.is c.if-ended-limit.true
 
 pub returns-else-ended-limit : goal.returns-else-ended-limit
 returns-else-ended-limit c =
     let found = (goal.at.returns-else-ended-limit c).After-search_column-ended in
-    spent_is_9 found.args.limit _ _ (outcome_is found) c.enum_told-1.given.1 c.if-ended-limit.false
+    spent_is_9 found.args.limit _ _ (outcome_is found) c.in-Spent.is c.if-ended-limit.false

@@ -9,12 +9,12 @@ use Rattle.store_chip.proofs.search_chip.Goals as goal
 
 pub search_allowed-requires : goal.search_allowed-requires
 search_allowed-requires c =
-    (ready off c.args.level c.args.soft.now c.args.limit (sym c.asked.ensures ∙ c.enum_told-1.given.1)).0
+    (ready off c.args.level c.args.soft.now c.args.limit (sym c.asked.ensures ∙ c.in-Done.is)).0
 
 pub returns-in-Done : goal.returns-in-Done
 returns-in-Done c =
-    c.search_allowed.ensures ∙ sym (settled off c.args.level c.args.soft.now c.args.limit refused_search _ Done (sym c.enum_told-1.given.1 ∙ c.asked.ensures))
+    c.search_allowed.ensures ∙ sym (settled off c.args.level c.args.soft.now c.args.limit refused_search _ Done (sym c.in-Done.is ∙ c.asked.ensures))
 
 pub returns-in-Refused : goal.returns-in-Refused
 returns-in-Refused c =
-    c.refused.ensures ∙ sym (settled off c.args.level c.args.soft.now c.args.limit refused_search _ _ (sym c.n-1.given.1 ∙ c.asked.ensures))
+    c.refused.ensures ∙ sym (settled off c.args.level c.args.soft.now c.args.limit refused_search _ _ (sym c.in-Refused.is ∙ c.asked.ensures))

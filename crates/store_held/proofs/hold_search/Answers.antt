@@ -42,7 +42,7 @@ bounds-store-name c = (allowed (goal.at.bounds-store-name c).In-Done).0
 pub returns-in-Refused : goal.returns-in-Refused
 returns-in-Refused c =
     let a = c.args in
-    hold_refused a.name a.soft.now a.level a.limit _ _ _ (sym c.n-1.given.1 ∙ c.asked_to_hold.ensures)
+    hold_refused a.name a.soft.now a.level a.limit _ _ _ (sym c.in-Refused.is ∙ c.asked_to_hold.ensures)
 
 pub returns-in-Found : goal.returns-in-Found
 returns-in-Found c =

@@ -52,7 +52,7 @@ bounds-store-i-in-Spent c = low (goal.at.bounds-store-i-in-Spent c).In-Done
 
 pub returns-in-Refused : goal.returns-in-Refused
 returns-in-Refused c =
-    take_refused _ _ _ c.if-name-ge4.false _ _ (sym c.n-1.given.1 ∙ c.asked_for_more.ensures)
+    take_refused _ _ _ c.if-name-ge4.false _ _ (sym c.in-Refused.is ∙ c.asked_for_more.ensures)
 
 pub returns-in-Found : goal.returns-in-Found
 returns-in-Found c =

@@ -13,21 +13,21 @@ use Rattle.store_listings.proofs.check_allowed.Goals as goal
 
 -- what the checker says
 verdict_is : (said : After-judge_column-verdict)
-    → said.judge_column-verdict.result ≡ code_verdict (judged (named_trellis (search_of said.args.in-supercodes) said.args.level said.args.soft.now) (listing_of 30 said.args.lengths.now said.args.bits.now))
+    → said.judge_column-verdict.result ≡ code_verdict (judged (named_trellis (search_of said.args.in_supercodes) said.args.level said.args.soft.now) (listing_of 30 said.args.lengths.now said.args.bits.now))
 verdict_is said =
-    said.judge_column-verdict.ensures.value (search_of said.args.in-supercodes) said.args.level said.requires.level said.tables_of-tables.ensures
+    said.judge_column-verdict.ensures.value (search_of said.args.in_supercodes) said.args.level said.requires.level said.tables_of-tables.ensures
 
 pub judge_column-verdict-requires : goal.judge_column-verdict-requires
 judge_column-verdict-requires c =
     let tables = c.tables_of-tables.ensures in
     let allowed = c.requires in record {
         lines = record { few = allowed.most; both = sym allowed.both };
-        searchable30 = column_searchable (search_of c.args.in-supercodes) c.args.level allowed.level c.args.soft.now _ _ _ allowed.full allowed.range tables;
+        searchable30 = column_searchable (search_of c.args.in_supercodes) c.args.level allowed.level c.args.soft.now _ _ _ allowed.full allowed.range tables;
         room = record { sums = refl; lens = refl; bits = refl };
       }
 
 pub returns-in-Accepted : goal.returns-in-Accepted
-returns-in-Accepted c = ap as_answer (sym c.enum_told-1.given.1) ∙ answered_as _ (verdict_is (goal.at.returns-in-Accepted c).After-judge_column-verdict)
+returns-in-Accepted c = ap as_answer (sym c.in-Accepted.is) ∙ answered_as _ (verdict_is (goal.at.returns-in-Accepted c).After-judge_column-verdict)
 
 pub returns-in-Wrong : goal.returns-in-Wrong
-returns-in-Wrong c = ap as_answer (sym c.verdict-1.given.1) ∙ answered_as _ (verdict_is (goal.at.returns-in-Wrong c).After-judge_column-verdict)
+returns-in-Wrong c = ap as_answer (sym c.in-Wrong.is) ∙ answered_as _ (verdict_is (goal.at.returns-in-Wrong c).After-judge_column-verdict)

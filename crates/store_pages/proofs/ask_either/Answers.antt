@@ -15,18 +15,18 @@ use Rattle.store_pages.proofs.ask_either.Goals as goal
 pub way_of-requires : goal.way_of-requires
 way_of-requires c =
     let args = c.args in
-    (ready (chosen args.second _) args.soft.now args.limit (eqb (length args.symbols-1.now) 252) (sym c.page_questions.ensures ∙ c.enum_told-1.given.1)).in_range
+    (ready (chosen args.second _) args.soft.now args.limit (eqb (length args.symbols-1.now) 252) (sym c.page_questions.ensures ∙ c.in-Done.is)).in_range
 
 pub ask_page-requires : goal.ask_page-requires
 ask_page-requires c =
     let args = c.args in
-    let ok = ready (chosen args.second _) args.soft.now args.limit (eqb (length args.symbols-1.now) 252) (sym c.page_questions.ensures ∙ c.enum_told-1.given.1) in
+    let ok = ready (chosen args.second _) args.soft.now args.limit (eqb (length args.symbols-1.now) 252) (sym c.page_questions.ensures ∙ c.in-Done.is) in
     (ok.long, ok.values, subst⁻¹ (λ (l : ℕ). l ≤ 2000) c.way_of.ensures.limit_value.0 ok.most, eqb-true _ _ ok.has_room)
 
 pub returns-in-Done : goal.returns-in-Done
 returns-in-Done c =
     let args = c.args in
-    filled_in_its_way symbol_buffer c.way_of.result args.second args.threshold c.ranges.threshold args.in-supercodes args.soft.now args.limit args.symbols-1.now c.way_of.ensures.limit_value (sym c.enum_told-1.given.1 ∙ c.page_questions.ensures) _ _ c.ask_page.ensures.value c.ask_page.ensures.symbols_after
+    filled_in_its_way symbol_buffer c.way_of.result args.second args.threshold c.ranges.threshold args.in-supercodes args.soft.now args.limit args.symbols-1.now c.way_of.ensures.limit_value (sym c.in-Done.is ∙ c.page_questions.ensures) _ _ c.ask_page.ensures.value c.ask_page.ensures.symbols_after
 
 pub returns-in-Refused : goal.returns-in-Refused
 returns-in-Refused c =

@@ -1,5 +1,4 @@
 -- `store_searches::search_supercode` meets its contract: what either search answers. Assumes nothing.
-use borrow.Author.Rules.{rules}
 use Rattle.searches.proofs.Outcomes.{answered}
 use Rattle.store_searches.proofs.search_supercode.Goals as goal
 

@@ -1,7 +1,6 @@
 -- `store_searches::search_whole_list` meets its contract: what either search answers. Assumes nothing.
 use mathlib.Core.Bool.{true}
 use mathlib.Core.Path.{ap, ◌∙◌}
-use borrow.Author.Rules.{rules}
 use Rattle.trellis.specs.Demand.{whole}
 use Rattle.trellis.specs.TwoWords.{Choice}
 use Rattle.list_of_two.proofs.Thresholds.{handed_on}
