@@ -1,12 +1,9 @@
 -- `correction::wrong` meets its contract: one column a turn of the loop. Assumes nothing.
-use mathlib.Core.Path.{◌≡◌, ap, ◌∙◌}
-use Prim.Native.Nat.{ℕ, ◌+◌, ◌-◌, ◌≤◌}
+use mathlib.Core.Path.{◌≡◌}
+use Prim.Native.Nat.{◌-◌, ◌≤◌}
 use native.Mathlib.Decide.{ℕ_discrete}
 use Rattle.reedsolomon.specs.Words.{errors}
 use Rattle.reedsolomon.specs.Row.{symbol, marked}
-use Rattle.reedsolomon.proofs.Marks.{none_wrong, wrongs_at_most, one_more_compared}
-use native.Mathlib.Omega.{arith}
-use borrow.Author.Rules.{rules}
 use Rattle.correction.proofs.wrong.Given as goal
 
 abbrev pub invariant-loop-j : goal.invariant-loop-j

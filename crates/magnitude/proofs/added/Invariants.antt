@@ -1,15 +1,10 @@
 -- `magnitude::added` meets its contract: one column a turn of the loop. Assumes nothing.
-use mathlib.Core.Path.{◌≡◌, ap, ◌∙◌}
-use mathlib.Core.Logic.{⊎_elim}
+use mathlib.Core.Path.{◌≡◌}
 use Prim.Native.Nat.{◌-◌, ◌≤◌}
-use lib.ListN.{length, length-set}
+use lib.ListN.{length}
 use Rattle.reedsolomon.specs.Words.{count}
 use Rattle.reedsolomon.specs.Row.{marked}
 use Rattle.reedsolomon.specs.Steps.{Added}
-use Rattle.reedsolomon.proofs.Counting.{count_at_most}
-use Rattle.reedsolomon.proofs.Marks.{none_counted, one_more_marked, one_more_unmarked, none_added, one_more_added, one_more_passed}
-use native.Mathlib.Omega.{arith}
-use borrow.Author.Rules.{rules}
 use Rattle.magnitude.proofs.added.Given as goal
 
 abbrev pub invariant-loop-j : goal.invariant-loop-j

@@ -1,19 +1,14 @@
-use mathlib.Core.Path.{◌≡◌, sym, ap, ◌∙◌, subst}
-use mathlib.Core.List.{List}
-use Prim.Native.Nat.{ℕ, ◌-◌, ◌+◌, ◌*◌, ◌≤◌, ◌<◌}
+use mathlib.Core.Path.{sym, ap, ◌∙◌, subst}
+use Prim.Native.Nat.{ℕ, ◌*◌, ◌<◌}
 use lib.Dec.{lit<}
-use lib.ListN.{length}
-use Rattle.poly.specs.Polynomial.{add}
-use Rattle.field.specs.Element.{mul, inverse}
 use Rattle.field.proofs.Short.{field64}
-use Rattle.reedsolomon.specs.Quotient.{magnitude}
-use Rattle.reedsolomon.specs.Row.{symbol, Symbols}
-use Rattle.reedsolomon.specs.Steps.{Entries}
+use Rattle.reedsolomon.specs.Row.{symbol}
 use Rattle.reedsolomon.proofs.Fill.{put_inside, one_more_block_put}
 use Rattle.reedsolomon.proofs.Correcting.{magnitude_inside}
 use Rattle.reedsolomon.proofs.Remainders.{zeros_at}
 use native.Mathlib.Omega.{arith}
 use borrow.Author.Rules.{rules}
+use Rattle.magnitude.proofs.all_magnitudes.Invariants.{meant}
 use Rattle.magnitude.proofs.all_magnitudes.Goals as goal
 
 pub loop-b-init : goal.loop-b-init
@@ -25,10 +20,10 @@ loop-b-preserved c =
     let l = c.loop-b in
     let p = c.put in (
       omega arith,
-      p.auto.1.1.1.0 ∙ l.invariant.1,
-      one_more_block_put (λ i. goal a.g.now a.s.now a.k (symbol a.xs.now i)) 16 l.b c.magnitudes-y.result l.ys-1 p.new.1.1.1.0 l.invariant.2 p.ensures
-          (λ i u. c.magnitudes-y.ensures i u ∙ ap (goal a.g.now a.s.now a.k) (c.block-x.ensures i u)),
-      put_inside 6 (l.b * 16) 16 (symbol c.magnitudes-y.result) l.ys-1 p.new.1.1.1.0 l.invariant.3
+      p.auto.b ∙ l.invariant.1,
+      one_more_block_put (λ i. meant a.g.now a.s.now a.k (symbol a.xs.now i)) 16 l.b c.magnitudes-y.result l.ys p.new.b l.invariant.2 p.ensures
+          (λ i u. c.magnitudes-y.ensures i u ∙ ap (meant a.g.now a.s.now a.k) (c.block-x.ensures i u)),
+      put_inside 6 (l.b * 16) 16 (symbol c.magnitudes-y.result) l.ys p.new.b l.invariant.3
           (λ i u. subst (λ (x : ℕ). x < 64) (sym (c.magnitudes-y.ensures i u)) (magnitude_inside 6 67 field64 _ _ _ _)) p.ensures,
     )
 

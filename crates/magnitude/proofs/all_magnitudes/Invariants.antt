@@ -1,27 +1,20 @@
 -- `magnitude::all_magnitudes` meets its contract: one block a turn of the loop. Assumes nothing.
-use mathlib.Core.Path.{◌≡◌, sym, ap, ◌∙◌, subst}
+use mathlib.Core.Path.{◌≡◌}
 use mathlib.Core.List.{List}
-use Prim.Native.Nat.{ℕ, ◌-◌, ◌+◌, ◌*◌, ◌≤◌, ◌<◌}
-use lib.Dec.{lit<}
+use Prim.Native.Nat.{ℕ, ◌-◌, ◌+◌, ◌*◌, ◌≤◌}
 use lib.ListN.{length}
 use Rattle.poly.specs.Polynomial.{add}
 use Rattle.field.specs.Element.{mul, inverse}
-use Rattle.field.proofs.Short.{field64}
 use Rattle.reedsolomon.specs.Quotient.{magnitude}
 use Rattle.reedsolomon.specs.Row.{symbol, Symbols}
 use Rattle.reedsolomon.specs.Steps.{Entries}
-use Rattle.reedsolomon.proofs.Fill.{put_inside, one_more_block_put}
-use Rattle.reedsolomon.proofs.Correcting.{magnitude_inside}
-use Rattle.reedsolomon.proofs.Remainders.{zeros_at}
-use native.Mathlib.Omega.{arith}
-use borrow.Author.Rules.{rules}
 use Rattle.magnitude.proofs.all_magnitudes.Given as goal
 
-abbrev goal : List ℕ → List ℕ → ℕ → ℕ → ℕ
-goal g s k x = magnitude add (mul 6 67) 0 (inverse 6 67) k (symbol s) (λ j. symbol g (31 - k + j)) x
+abbrev pub meant : List ℕ → List ℕ → ℕ → ℕ → ℕ
+meant g s k x = magnitude add (mul 6 67) 0 (inverse 6 67) k (symbol s) (λ j. symbol g (31 - k + j)) x
 
 abbrev pub invariant-loop-b : goal.invariant-loop-b
-invariant-loop-b l = (l.b ≤ 2) × (length l.ys ≡ 64) × Entries (l.b * 16) (λ i. goal l.g l.s l.k (symbol l.xs i)) l.ys × Symbols 6 l.ys
+invariant-loop-b l = (l.b ≤ 2) × (length l.ys ≡ 64) × Entries (l.b * 16) (λ i. meant l.g l.s l.k (symbol l.xs i)) l.ys × Symbols 6 l.ys
 
 abbrev pub decreases-loop-b : goal.decreases-loop-b
 decreases-loop-b l = 2 - l.b

@@ -3,7 +3,6 @@ use mathlib.Core.Path.{refl}
 use lib.Dec.{lit<}
 use Rattle.field.specs.Element.{inverse}
 use Rattle.field.proofs.Ring.{power_square, power_next, power_join}
-use borrow.Author.Rules.{rules}
 use Rattle.magnitude.proofs.inverses.Goals as goal
 
 pub returns : goal.returns

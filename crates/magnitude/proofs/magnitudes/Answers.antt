@@ -1,16 +1,11 @@
 use mathlib.Core.Path.{◌≡◌, refl, ap, ◌∙◌}
-use mathlib.Core.List.{List}
-use Prim.Native.Nat.{ℕ, suc, ◌-◌, ◌+◌, ◌≤◌}
-use lib.ListN.{length}
-use Rattle.poly.specs.Polynomial.{add}
-use Rattle.field.specs.Element.{mul}
+use Prim.Native.Nat.{suc, ◌-◌, ◌+◌}
 use Rattle.field.proofs.Short.{field64}
-use Rattle.reedsolomon.specs.Quotient.{denominator, numerator}
 use Rattle.reedsolomon.specs.Row.{symbol}
-use Rattle.reedsolomon.specs.Steps.{Entries}
-use Rattle.reedsolomon.proofs.Lanes.{value_at, values_begin, values_go_on, denominators_begin, denominators_go_on, numerators_begin, numerators_go_on, magnitudes_end}
+use Rattle.reedsolomon.proofs.Lanes.{values_begin, values_go_on, denominators_begin, denominators_go_on, numerators_begin, numerators_go_on, magnitudes_end}
 use native.Mathlib.Omega.{arith}
 use borrow.Author.Rules.{rules}
+use Rattle.magnitude.proofs.magnitudes.Invariants.{from}
 use Rattle.magnitude.proofs.magnitudes.Goals as goal
 
 pub loop-j-init : goal.loop-j-init
@@ -20,9 +15,9 @@ loop-j-init c =
       search rules,
       search rules,
       search rules,
-      values_begin 6 67 field64 16 (from x.g.now x.k) x.t4,
-      denominators_begin 6 67 field64 16 (from x.g.now x.k) x.t4,
-      numerators_begin 6 67 field64 16 x.k (symbol x.s.now) (from x.g.now x.k) x.t4,
+      values_begin 6 67 field64 16 (from x.g.now x.k) x.xs,
+      denominators_begin 6 67 field64 16 (from x.g.now x.k) x.xs,
+      numerators_begin 6 67 field64 16 x.k (symbol x.s.now) (from x.g.now x.k) x.xs,
     )
 
 pub loop-j-preserved : goal.loop-j-preserved
@@ -33,15 +28,15 @@ loop-j-preserved c =
     let f = c.fold in
     let t = c.gather in
     let p = from x.g.now x.k in
-    let q = values_go_on 6 67 field64 p x.t4 l.q-1 r.new.0 l.j _ refl l.invariant.4 r.ensures in
+    let q = values_go_on 6 67 field64 p x.xs l.q r.new.v l.j _ refl l.invariant.4 r.ensures in
     let e : x.k - (l.j + 1) ≡ x.k - suc l.j = omega arith in (
       omega arith,
-      r.auto.0 ∙ l.invariant.1,
-      f.auto.0 ∙ l.invariant.2,
-      t.auto.0 ∙ l.invariant.3,
+      r.auto.v ∙ l.invariant.1,
+      f.auto.d ∙ l.invariant.2,
+      t.auto.a ∙ l.invariant.3,
       q,
-      denominators_go_on 6 67 field64 p x.t4 r.new.0 l.d-1 f.new.0 l.j q l.invariant.5 f.ensures,
-      numerators_go_on 6 67 field64 x.k (symbol x.s.now) p x.t4 r.new.0 l.a-1 t.new.0 l.j _ (ap (symbol x.s.now) e) q l.invariant.6 t.ensures,
+      denominators_go_on 6 67 field64 p x.xs r.new.v l.d f.new.d l.j q l.invariant.5 f.ensures,
+      numerators_go_on 6 67 field64 x.k (symbol x.s.now) p x.xs r.new.v l.a t.new.a l.j _ (ap (symbol x.s.now) e) q l.invariant.6 t.ensures,
     )
 
 pub returns : goal.returns
@@ -49,5 +44,5 @@ returns c =
     let x = c.args in
     let l = c.loop-j in
     let e : l.j ≡ x.k = omega arith in
-    magnitudes_end 6 67 field64 x.k (symbol x.s.now) (from x.g.now x.k) x.t4 l.a-1 l.d-1 c.products-e.result c.inverses-f.result c.products.result
+    magnitudes_end 6 67 field64 x.k (symbol x.s.now) (from x.g.now x.k) x.xs l.a l.d c.products-e.result c.inverses-f.result c.products.result
     (rw e at l.invariant.6) (rw e at l.invariant.5) c.products-e.ensures c.inverses-f.ensures c.products.ensures

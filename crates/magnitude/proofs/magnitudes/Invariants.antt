@@ -1,7 +1,7 @@
 -- `magnitude::magnitudes` meets its contract: the three recurrences, one coefficient a turn of the loop. Assumes nothing.
-use mathlib.Core.Path.{◌≡◌, refl, ap, ◌∙◌}
+use mathlib.Core.Path.{◌≡◌}
 use mathlib.Core.List.{List}
-use Prim.Native.Nat.{ℕ, suc, ◌-◌, ◌+◌, ◌≤◌}
+use Prim.Native.Nat.{ℕ, ◌-◌, ◌+◌, ◌≤◌}
 use lib.ListN.{length}
 use Rattle.poly.specs.Polynomial.{add}
 use Rattle.field.specs.Element.{mul}
@@ -9,13 +9,11 @@ use Rattle.field.proofs.Short.{field64}
 use Rattle.reedsolomon.specs.Quotient.{denominator, numerator}
 use Rattle.reedsolomon.specs.Row.{symbol}
 use Rattle.reedsolomon.specs.Steps.{Entries}
-use Rattle.reedsolomon.proofs.Lanes.{value_at, values_begin, values_go_on, denominators_begin, denominators_go_on, numerators_begin, numerators_go_on, magnitudes_end}
-use native.Mathlib.Omega.{arith}
-use borrow.Author.Rules.{rules}
+use Rattle.reedsolomon.proofs.Lanes.{value_at}
 use Rattle.magnitude.proofs.magnitudes.Given as goal
 
 -- the coefficients of the polynomial, the highest first
-abbrev from : List ℕ → ℕ → ℕ → ℕ
+abbrev pub from : List ℕ → ℕ → ℕ → ℕ
 from g k j = symbol g (31 - k + j)
 
 abbrev pub invariant-loop-j : goal.invariant-loop-j

@@ -1,14 +1,6 @@
 use mathlib.Core.Path.{◌≡◌, refl, ◌∙◌}
-use mathlib.Core.Bool.{true}
-use Prim.Native.Nat.{◌-◌, ◌≤◌}
 use lib.Dec.{lit<}
-use lib.ListN.{length}
-use Rattle.poly.specs.Polynomial.{add}
-use Rattle.field.specs.Element.{mul}
 use Rattle.field.proofs.Short.{field64}
-use Rattle.reedsolomon.specs.Product.{ProductPolynomial}
-use Rattle.reedsolomon.specs.Row.{symbol}
-use Rattle.reedsolomon.specs.Steps.{Element}
 use Rattle.reedsolomon.proofs.ErasedColumns.{product_begins, product_goes_on}
 use native.Mathlib.Omega.{arith}
 use borrow.Author.Rules.{rules}
@@ -23,8 +15,8 @@ loop-i-preserved c =
     let l = c.loop-i in
     let s = c.modify in (
       omega arith,
-      s.auto.0 ∙ l.invariant.1,
-      product_goes_on 6 67 field64 a.xs.now 31 l.i _ l.g-1 s.new.0 (omega arith) refl l.invariant.2 s.ensures,
+      s.auto.s ∙ l.invariant.1,
+      product_goes_on 6 67 field64 a.xs.now 31 l.i _ l.g s.new.s (omega arith) refl l.invariant.2 s.ensures,
     )
 
 pub returns : goal.returns

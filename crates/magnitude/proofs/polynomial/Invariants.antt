@@ -1,22 +1,17 @@
 -- `magnitude::polynomial` meets its contract: one locator a turn of the loop. Assumes nothing.
-use mathlib.Core.Path.{◌≡◌, refl, ◌∙◌}
+use mathlib.Core.Path.{◌≡◌}
 use mathlib.Core.Bool.{true}
 use Prim.Native.Nat.{◌-◌, ◌≤◌}
-use lib.Dec.{lit<}
 use lib.ListN.{length}
 use Rattle.poly.specs.Polynomial.{add}
 use Rattle.field.specs.Element.{mul}
-use Rattle.field.proofs.Short.{field64}
 use Rattle.reedsolomon.specs.Product.{ProductPolynomial}
 use Rattle.reedsolomon.specs.Row.{symbol}
 use Rattle.reedsolomon.specs.Steps.{Element}
-use Rattle.reedsolomon.proofs.ErasedColumns.{product_begins, product_goes_on}
-use native.Mathlib.Omega.{arith}
-use borrow.Author.Rules.{rules}
 use Rattle.magnitude.proofs.polynomial.Given as goal
 
 abbrev pub invariant-loop-i : goal.invariant-loop-i
-invariant-loop-i l = (l.i ≤ l.k) × (length l.g ≡ 33) × ProductPolynomial (Element 6 67) add (mul 6 67) 0 1 (symbol l.xs) (λ l.i. true) l.i 31 (symbol l.g)
+invariant-loop-i l = (l.i ≤ l.k) × (length l.g ≡ 33) × ProductPolynomial (Element 6 67) add (mul 6 67) 0 1 (symbol l.xs) (λ i. true) l.i 31 (symbol l.g)
 
 abbrev pub decreases-loop-i : goal.decreases-loop-i
 decreases-loop-i l = l.k - l.i

@@ -1,12 +1,10 @@
-use mathlib.Core.Path.{◌≡◌, ap, ◌∙◌}
-use mathlib.Core.List.{List}
-use Prim.Native.Nat.{ℕ, ◌-◌, ◌≤◌}
+use mathlib.Core.Path.{ap, ◌∙◌}
+use Prim.Native.Nat.{ℕ}
 use native.Mathlib.Nat.{le_refl}
-use lib.ListN.{length, length-set}
+use lib.ListN.{length-set}
 use Rattle.poly.specs.Polynomial.{add}
 use Rattle.field.specs.Element.{mul}
 use Rattle.reedsolomon.specs.Row.{symbol}
-use Rattle.reedsolomon.specs.Steps.{Written}
 use Rattle.reedsolomon.proofs.Fill.{nothing_written, one_more_written}
 use native.Mathlib.Omega.{arith}
 use borrow.Author.Rules.{rules}
@@ -23,7 +21,7 @@ loop-i-preserved c =
     let a = c.args in (
       omega arith,
       simp length-set (omega arith),
-      one_more_written _ _ _ _ _ f (omega arith) (c.product.ensures ∙ ap (λ (x : ℕ). mul 6 67 x (symbol a.t2 l.i)) (f.kept l.i (le_refl l.i))),
+      one_more_written _ _ _ _ _ f (omega arith) (c.product.ensures ∙ ap (λ (x : ℕ). mul 6 67 x (symbol a.b l.i)) (f.kept l.i (le_refl l.i))),
     )
 
 pub returns : goal.returns

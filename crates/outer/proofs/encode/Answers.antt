@@ -7,14 +7,13 @@ use Rattle.field.proofs.Short.{primitive64}
 use Rattle.reedsolomon.proofs.ShortRows.{row_roots_bounded}
 use Rattle.reedsolomon.proofs.Remainders.{row_of_data_and_remainder}
 use native.Mathlib.Omega.{arith}
-use borrow.Author.Rules.{rules}
 use Rattle.outer.proofs.encode.Goals as goal
 
 pub put-requires-2 : goal.put-requires-2
 put-requires-2 c =
     let s = c in
     let r = c.remainder-r in
-    let e : length c.put.new.1.1.1.0 ≡ 63 = c.put.auto.1.1.1.0 ∙ s.requires.3 in
+    let e : length c.put.new.b ≡ 63 = c.put.auto.b ∙ s.requires.3 in
     let h : s.args.t ≤ 30 = row_roots_bounded _ s.requires.0 in
     let n : length r.result ≡ 33 = omega arith in
     (omega arith, omega arith)
@@ -25,5 +24,5 @@ returns c =
     let put = c.put in
     let put2 = c.put-2 in
     let r = c.remainder-r in
-    row_of_data_and_remainder 6 67 63 s.args.t primitive64 (lit< tt) s.args.«data».now r.result s.args.out.now put.new.1.1.1.0 put2.new.1.1.1.0
-    s.requires.1 s.requires.2 (put2.auto.1.1.1.0 ∙ put.auto.1.1.1.0 ∙ s.requires.3) r.ensures put.ensures put2.ensures
+    row_of_data_and_remainder 6 67 63 s.args.t primitive64 (lit< tt) s.args.«data».now r.result s.args.out.now put.new.b put2.new.b
+    s.requires.1 s.requires.2 (put2.auto.b ∙ put.auto.b ∙ s.requires.3) r.ensures put.ensures put2.ensures

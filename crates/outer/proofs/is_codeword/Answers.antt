@@ -3,14 +3,13 @@ use lib.Dec.{lit<}
 use Rattle.field.proofs.Short.{primitive64}
 use Rattle.reedsolomon.proofs.Deciding.{padded_row, row_is_tested}
 use native.Mathlib.Omega.{arith}
-use borrow.Author.Rules.{rules}
 use Rattle.outer.proofs.is_codeword.Goals as goal
 
 pub syndromes-s-requires : goal.syndromes-s-requires
 syndromes-s-requires c =
     let put = c.put in
     let s = c in
-    (omega (arith, slice_bounds-syndromes-end c), omega (arith, s.requires.2), padded_row 6 63 64 s.args.symbols.now _ s.requires.0 s.requires.1 put.ensures (lit< tt))
+    (omega arith, omega (arith, s.requires.2), padded_row 6 63 64 s.args.symbols.now _ s.requires.0 s.requires.1 put.ensures (lit< tt))
 
 pub returns : goal.returns
 returns c =

@@ -2,7 +2,6 @@
 use mathlib.Core.Path.{refl}
 use Rattle.reedsolomon.specs.ShortRows.{short_roots}
 use Rattle.reedsolomon.proofs.ShortRows.{at_most_30_roots}
-use borrow.Author.Rules.{rules}
 use Rattle.outer.proofs.roots.Goals as goal
 
 pub returns : goal.returns

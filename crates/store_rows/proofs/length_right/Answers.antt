@@ -2,7 +2,6 @@
 use native.Mathlib.Omega.{arith}
 use borrow.Author.Tests.{le-leb, lt-leb}
 use Rattle.store_rows.specs.Rows.{length_right}
-use borrow.Author.Rules.{rules}
 use Rattle.store_rows.proofs.length_right.Goals as goal
 
 pub returns-then-level-ge4 : goal.returns-then-level-ge4

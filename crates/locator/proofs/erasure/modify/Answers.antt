@@ -1,14 +1,12 @@
 use mathlib.Core.Path.{◌≡◌, ap, ap₂, ◌∙◌}
-use mathlib.Core.List.{List}
-use Prim.Native.Nat.{ℕ, suc, ◌+◌, ◌-◌, ◌≤◌}
+use Prim.Native.Nat.{◌+◌}
 use native.Mathlib.Nat.{le_refl}
 use native.Mathlib.Numerals.{add-one}
 use lib.Bits.{bit_xor}
-use lib.ListN.{length, length-set}
+use lib.ListN.{length-set}
 use Rattle.poly.specs.Polynomial.{add}
 use Rattle.field.specs.Element.{mul}
 use Rattle.reedsolomon.specs.Row.{symbol}
-use Rattle.reedsolomon.specs.Steps.{Written}
 use Rattle.reedsolomon.proofs.Fill.{nothing_written, one_more_written}
 use native.Mathlib.Omega.{arith}
 use borrow.Author.Rules.{rules}

@@ -1,25 +1,19 @@
 -- `locator::erasure::modify` meets its contract: one entry a turn of the loop. Assumes nothing.
-use mathlib.Core.Path.{◌≡◌, ap, ap₂, ◌∙◌}
+use mathlib.Core.Path.{◌≡◌}
 use mathlib.Core.List.{List}
-use Prim.Native.Nat.{ℕ, suc, ◌+◌, ◌-◌, ◌≤◌}
-use native.Mathlib.Nat.{le_refl}
-use native.Mathlib.Numerals.{add-one}
-use lib.Bits.{bit_xor}
-use lib.ListN.{length, length-set}
+use Prim.Native.Nat.{ℕ, suc, ◌-◌, ◌≤◌}
+use lib.ListN.{length}
 use Rattle.poly.specs.Polynomial.{add}
 use Rattle.field.specs.Element.{mul}
 use Rattle.reedsolomon.specs.Row.{symbol}
 use Rattle.reedsolomon.specs.Steps.{Written}
-use Rattle.reedsolomon.proofs.Fill.{nothing_written, one_more_written}
-use native.Mathlib.Omega.{arith}
-use borrow.Author.Rules.{rules}
 use Rattle.locator.proofs.erasure.modify.Given as goal
 
-abbrev goal : ℕ → List ℕ → ℕ → ℕ
-goal y s i = add (symbol s (suc i)) (mul 6 67 y (symbol s i))
+abbrev meant : ℕ → List ℕ → ℕ → ℕ
+meant y s i = add (symbol s (suc i)) (mul 6 67 y (symbol s i))
 
 abbrev pub invariant-loop-i : goal.invariant-loop-i
-invariant-loop-i l = (l.i ≤ 32) × (length l.s ≡ length l.initial.s) × Written l.i (goal l.y l.initial.s) l.initial.s l.s
+invariant-loop-i l = (l.i ≤ 32) × (length l.s ≡ length l.initial.s) × Written l.i (meant l.y l.initial.s) l.initial.s l.s
 
 abbrev pub decreases-loop-i : goal.decreases-loop-i
 decreases-loop-i l = 32 - l.i

@@ -1,17 +1,11 @@
 use mathlib.Core.Path.{◌≡◌, sym, ap, ◌∙◌}
-use mathlib.Core.Logic.{⊎_elim}
-use Prim.Native.Nat.{◌-◌, ◌≤◌}
 use lib.ListN.{length}
-use Rattle.poly.specs.Polynomial.{add}
-use Rattle.field.specs.Element.{mul}
 use Rattle.field.proofs.Short.{field64}
-use Rattle.reedsolomon.specs.ModifiedSyndromes.{Left}
-use Rattle.reedsolomon.specs.Row.{symbol, Symbols, marked}
-use Rattle.reedsolomon.specs.Steps.{locator_at}
 use Rattle.reedsolomon.proofs.ErasedColumns.{modified_inside, no_column_modified, nothing_to_modify, marked_column_modified, unmarked_column_passed}
 use native.Mathlib.Omega.{arith}
 use borrow.Author.Rules.{rules}
 use Rattle.locator.proofs.erasure.modify_syndromes.Goals as goal
+use Rattle.locator.proofs.erasure.modify_syndromes.Goals.{then-marks-j-eq1, else-marks-j-eq1}
 
 pub returns-then-n-eq0 : goal.returns-then-n-eq0
 returns-then-n-eq0 c =
@@ -27,12 +21,13 @@ loop-j-preserved c =
     let l = c.loop-j in
     let all = c.locators-all in (
       omega arith,
-      ⊎_elim (λ w. ap length w.5 ∙ w.2.kept.0 ∙ l.invariant.1) (λ w. ap length w.1 ∙ l.invariant.1) c.if-marks-j-eq1.branch,
-      ⊎_elim
-          (λ w. rw w.5 (marked_column_modified 6 67 field64 63 a.marks.now a.s-1.now 32 l.j _ l.s-1 w.2.last.0 w.0.taken
-          (all.ensures l.j (omega arith)) l.invariant.2 w.2.ensures))
-          (λ w. rw w.1 (unmarked_column_passed 6 67 field64 63 a.marks.now a.s-1.now 32 l.j l.s-1 w.0.left l.invariant.2)) c.if-marks-j-eq1.branch,
-      ⊎_elim (λ w. rw w.5 (modified_inside 6 67 field64 32 _ l.s-1 w.2.last.0 l.invariant.3 w.2.ensures)) (λ w. rw w.1 l.invariant.3) c.if-marks-j-eq1.branch,
+      elim c.if-marks-j-eq1.branch [ then-marks-j-eq1 w ↦ ap length w.s-is ∙ w.modify.auto.s ∙ l.invariant.1 | else-marks-j-eq1 w ↦ ap length w.s-is ∙ l.invariant.1 ],
+      elim c.if-marks-j-eq1.branch [
+        | then-marks-j-eq1 w ↦ rw w.s-is (marked_column_modified 6 67 field64 63 a.marks.now a.s.now 32 l.j _ l.s w.modify.new.s w.if-marks-j-eq1.true
+            (all.ensures l.j (omega arith)) l.invariant.2 w.modify.ensures)
+        | else-marks-j-eq1 w ↦ rw w.s-is (unmarked_column_passed 6 67 field64 63 a.marks.now a.s.now 32 l.j l.s w.if-marks-j-eq1.false l.invariant.2)
+      ],
+      elim c.if-marks-j-eq1.branch [ then-marks-j-eq1 w ↦ rw w.s-is (modified_inside 6 67 field64 32 _ l.s w.modify.new.s l.invariant.3 w.modify.ensures) | else-marks-j-eq1 w ↦ rw w.s-is l.invariant.3 ],
     )
 
 pub shape_of-s : goal.shape_of-s

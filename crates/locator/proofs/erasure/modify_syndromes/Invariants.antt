@@ -1,17 +1,12 @@
 -- `locator::erasure::modify_syndromes` meets its contract: one column a turn of the loop. Assumes nothing.
-use mathlib.Core.Path.{◌≡◌, sym, ap, ◌∙◌}
-use mathlib.Core.Logic.{⊎_elim}
+use mathlib.Core.Path.{◌≡◌}
 use Prim.Native.Nat.{◌-◌, ◌≤◌}
 use lib.ListN.{length}
 use Rattle.poly.specs.Polynomial.{add}
 use Rattle.field.specs.Element.{mul}
-use Rattle.field.proofs.Short.{field64}
 use Rattle.reedsolomon.specs.ModifiedSyndromes.{Left}
 use Rattle.reedsolomon.specs.Row.{symbol, Symbols, marked}
 use Rattle.reedsolomon.specs.Steps.{locator_at}
-use Rattle.reedsolomon.proofs.ErasedColumns.{modified_inside, no_column_modified, nothing_to_modify, marked_column_modified, unmarked_column_passed}
-use native.Mathlib.Omega.{arith}
-use borrow.Author.Rules.{rules}
 use Rattle.locator.proofs.erasure.modify_syndromes.Given as goal
 
 abbrev pub invariant-loop-j : goal.invariant-loop-j

@@ -1,5 +1,5 @@
 use mathlib.Core.Path.{◌≡◌, ap, ◌∙◌}
-use Prim.Native.Nat.{◌+◌, ◌-◌, ◌≤◌}
+use Prim.Native.Nat.{◌+◌}
 use Rattle.reedsolomon.specs.Words.{count}
 use Rattle.reedsolomon.specs.Row.{marked}
 use Rattle.reedsolomon.proofs.Counting.{count_at_most}

@@ -1,6 +1,4 @@
 use mathlib.Core.Path.{◌≡◌, ap, ◌∙◌, subst}
-use mathlib.Core.Logic.{⊎_elim}
-use Prim.Native.Nat.{◌-◌, ◌≤◌}
 use lib.ListN.{length}
 use Rattle.field.proofs.Short.{field64}
 use Rattle.reedsolomon.specs.Row.{symbol}
@@ -10,6 +8,7 @@ use Rattle.reedsolomon.proofs.Rows.{row_begins_at, row_meets_equation, slot_is_a
 use native.Mathlib.Omega.{arith}
 use borrow.Author.Rules.{rules}
 use Rattle.locator.proofs.locate.attempt.Goals as goal
+use Rattle.locator.proofs.locate.attempt.Goals.{then-v-ne0+else-q-eq0, else-v-ne0}
 
 pub loop-i-init : goal.loop-i-init
 loop-i-init c =
@@ -20,7 +19,7 @@ pub returns-then-q-eq0 : goal.returns-then-q-eq0
 returns-then-q-eq0 c =
     let a = c.args in
     let l = c.loop-i in
-    row_stops_at_free_slot field64 16 a.n (symbol a.m.now) (symbol a.qs.now) (coefficient 6 67 l.row-1) (symbol l.row-1) a.b l.i (omega arith) l.invariant.2
+    row_stops_at_free_slot field64 16 a.n (symbol a.m.now) (symbol a.qs.now) (coefficient 6 67 l.row) (symbol l.row) a.b l.i (omega arith) l.invariant.2
     c.if-q-eq0.true c.if-v-ne0.true
 
 pub loop-i-preserved : goal.loop-i-preserved
@@ -29,11 +28,12 @@ loop-i-preserved c =
     let a = s.args in
     let l = c.loop-i in (
       omega arith,
-      ⊎_elim (λ w. ap length w.7 ∙ w.5.kept.0 ∙ l.invariant.1) (λ w. ap length w.1 ∙ l.invariant.1) c.if-v-ne0.branch,
-      ⊎_elim
-          (λ w. rw w.7 (slot_is_added 6 67 field64 a.n a.m.now a.slots.now a.qs.now l.row-1 w.5.last.0 _ a.b l.i (omega arith) s.requires.0 s.requires.6
-          w.2.left l.invariant.2 w.3.ensures w.5.ensures))
-          (λ w. rw w.1 (row_meets_equation 6 67 field64 a.n a.m.now l.row-1 a.b l.i l.invariant.2 w.0.left)) c.if-v-ne0.branch,
+      elim c.if-v-ne0.branch [ then-v-ne0+else-q-eq0 w ↦ ap length w.row-is ∙ w.combine.auto.row ∙ l.invariant.1 | else-v-ne0 w ↦ ap length w.row-is ∙ l.invariant.1 ],
+      elim c.if-v-ne0.branch [
+        | then-v-ne0+else-q-eq0 w ↦ rw w.row-is (slot_is_added 6 67 field64 a.n a.m.now a.slots.now a.qs.now l.row w.combine.new.row _ a.b l.i (omega arith) s.requires.0 s.requires.6
+            w.if-q-eq0.false l.invariant.2 w.product-t.ensures w.combine.ensures)
+        | else-v-ne0 w ↦ rw w.row-is (row_meets_equation 6 67 field64 a.n a.m.now l.row a.b l.i l.invariant.2 w.if-v-ne0.false)
+      ],
     )
 
 pub returns : goal.returns
@@ -41,5 +41,5 @@ returns c =
     let a = c.args in
     let l = c.loop-i in
     let e : l.i ≡ a.n = omega arith in
-    row_reaches_the_end field64 16 a.n (symbol a.m.now) (symbol a.qs.now) (coefficient 6 67 l.row-1) (symbol l.row-1) a.b
-    (subst (RowAt 6 67 a.n a.m.now l.row-1 a.b) e l.invariant.2)
+    row_reaches_the_end field64 16 a.n (symbol a.m.now) (symbol a.qs.now) (coefficient 6 67 l.row) (symbol l.row) a.b
+    (subst (RowAt 6 67 a.n a.m.now l.row a.b) e l.invariant.2)

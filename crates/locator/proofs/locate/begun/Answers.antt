@@ -1,8 +1,5 @@
 use mathlib.Core.Path.{◌≡◌, refl}
-use Prim.Native.Nat.{◌+◌, ◌-◌, ◌≤◌}
-use lib.ListN.{length, length-set}
-use Rattle.reedsolomon.specs.Row.{symbol}
-use Rattle.reedsolomon.specs.Steps.{Written}
+use lib.ListN.{length-set}
 use Rattle.reedsolomon.proofs.Fill.{nothing_written, one_more_written}
 use Rattle.reedsolomon.proofs.Rows.{row_as_it_begins}
 use native.Mathlib.Omega.{arith}

@@ -1,13 +1,9 @@
 -- `locator::locate::begun` meets its contract: one combination a turn of the loop, and then the 1. Assumes nothing.
-use mathlib.Core.Path.{◌≡◌, refl}
+use mathlib.Core.Path.{◌≡◌}
 use Prim.Native.Nat.{◌+◌, ◌-◌, ◌≤◌}
-use lib.ListN.{length, length-set}
+use lib.ListN.{length}
 use Rattle.reedsolomon.specs.Row.{symbol}
 use Rattle.reedsolomon.specs.Steps.{Written}
-use Rattle.reedsolomon.proofs.Fill.{nothing_written, one_more_written}
-use Rattle.reedsolomon.proofs.Rows.{row_as_it_begins}
-use native.Mathlib.Omega.{arith}
-use borrow.Author.Rules.{rules}
 use Rattle.locator.proofs.locate.begun.Given as goal
 
 abbrev pub invariant-loop-i : goal.invariant-loop-i

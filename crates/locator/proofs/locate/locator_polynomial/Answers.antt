@@ -1,12 +1,12 @@
 use mathlib.Core.Path.{◌≡◌, ap, ◌∙◌, subst}
-use Prim.Native.Nat.{ℕ, ◌-◌, ◌+◌, ◌≤◌, ◌<◌}
+use Prim.Native.Nat.{ℕ, ◌+◌, ◌≤◌, ◌<◌}
 use native.Mathlib.Decide.{ℕ_discrete}
 use lib.Arith.{lt_of_le-ne}
-use lib.ListN.{length, length-set, replicate}
+use lib.ListN.{length-set, replicate}
 use Rattle.field.proofs.Short.{field64}
 use Rattle.reedsolomon.specs.Words.{nonzeros}
 use Rattle.reedsolomon.specs.Row.{symbol}
-use Rattle.reedsolomon.specs.Steps.{RowAt, SlotsAt}
+use Rattle.reedsolomon.specs.Steps.{RowAt}
 use Rattle.reedsolomon.proofs.Rows.{slots_begin_at, none_used, row_is_kept_at, one_more_used, row_finishes}
 use native.Mathlib.Omega.{arith}
 use borrow.Author.Rules.{rules}
@@ -38,7 +38,7 @@ put-requires c =
     let t = c.attempt-t in
     let s = c in
     let h : t.result.stop < s.args.n = lt_of_le-ne t.ensures.within c.if-stop-n.false in
-    (omega (arith, slice_bounds-put-end c.before), omega arith)
+    (omega arith, omega arith)
 
 pub bounds-row-stop : goal.bounds-row-stop
 bounds-row-stop c =
@@ -61,11 +61,11 @@ loop-b-preserved c =
     let q = c.inverse.result in
     let h : t.result.stop < n = lt_of_le-ne t.ensures.within c.if-stop-n.false in (
       omega arith,
-      p.auto.1.1.1.0 ∙ l.invariant.1,
-      length-set l.qs-1 t.result.stop q ∙ l.invariant.2,
-      one_more_used 6 67 field64 n m l.slots-1 p.new.1.1.1.0 l.qs-1 t.result.row q l.b t.result.stop h s.requires.0 l.invariant.2 t.ensures c.inverse.ensures
+      p.auto.b ∙ l.invariant.1,
+      length-set l.qs t.result.stop q ∙ l.invariant.2,
+      one_more_used 6 67 field64 n m l.slots p.new.b l.qs t.result.row q l.b t.result.stop h s.requires.0 l.invariant.2 t.ensures c.inverse.ensures
           ∙ ap (λ (x : ℕ). x + 1) l.invariant.3,
-      row_is_kept_at 6 67 field64 n m l.slots-1 p.new.1.1.1.0 l.qs-1 t.result.row q l.b t.result.stop h s.requires.0 l.invariant.2 t.ensures c.inverse.ensures
+      row_is_kept_at 6 67 field64 n m l.slots p.new.b l.qs t.result.row q l.b t.result.stop h s.requires.0 l.invariant.2 t.ensures c.inverse.ensures
           l.invariant.4 p.ensures,
     )
 
@@ -80,6 +80,6 @@ returns c =
     let s = c in
     let l = c.loop-b in
     let t = c.attempt-t-2 in
-    let full : s.args.n ≤ nonzeros ℕ_discrete 0 s.args.n (symbol l.qs-1) = omega arith in
-    let e : t.result.stop ≡ s.args.n = row_finishes 6 67 field64 s.args.n s.args.m.now l.qs-1 t.result.row l.b t.result.stop full t.ensures in
+    let full : s.args.n ≤ nonzeros ℕ_discrete 0 s.args.n (symbol l.qs) = omega arith in
+    let e : t.result.stop ≡ s.args.n = row_finishes 6 67 field64 s.args.n s.args.m.now l.qs t.result.row l.b t.result.stop full t.ensures in
     (l.invariant.0, subst (RowAt 6 67 s.args.n s.args.m.now t.result.row l.b) e t.ensures.row)

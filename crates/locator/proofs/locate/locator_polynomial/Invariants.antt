@@ -1,16 +1,11 @@
 -- `locator::locate::locator_polynomial` meets its contract: one row a turn of the loop, and each that does not finish uses one slot more. Assumes nothing.
-use mathlib.Core.Path.{◌≡◌, ap, ◌∙◌, subst}
-use Prim.Native.Nat.{ℕ, ◌-◌, ◌+◌, ◌≤◌, ◌<◌}
+use mathlib.Core.Path.{◌≡◌}
+use Prim.Native.Nat.{◌-◌, ◌≤◌}
 use native.Mathlib.Decide.{ℕ_discrete}
-use lib.Arith.{lt_of_le-ne}
-use lib.ListN.{length, length-set, replicate}
-use Rattle.field.proofs.Short.{field64}
+use lib.ListN.{length}
 use Rattle.reedsolomon.specs.Words.{nonzeros}
 use Rattle.reedsolomon.specs.Row.{symbol}
-use Rattle.reedsolomon.specs.Steps.{RowAt, SlotsAt}
-use Rattle.reedsolomon.proofs.Rows.{slots_begin_at, none_used, row_is_kept_at, one_more_used, row_finishes}
-use native.Mathlib.Omega.{arith}
-use borrow.Author.Rules.{rules}
+use Rattle.reedsolomon.specs.Steps.{SlotsAt}
 use Rattle.locator.proofs.locate.locator_polynomial.Given as goal
 
 abbrev pub invariant-loop-b : goal.invariant-loop-b

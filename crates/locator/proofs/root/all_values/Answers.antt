@@ -1,9 +1,7 @@
 use mathlib.Core.Path.{◌≡◌, ap, ◌∙◌}
-use mathlib.Core.List.{List}
-use Prim.Native.Nat.{ℕ, ◌-◌, ◌*◌, ◌≤◌}
-use lib.ListN.{length}
+use Prim.Native.Nat.{ℕ}
 use Rattle.reedsolomon.specs.Row.{symbol}
-use Rattle.reedsolomon.specs.Steps.{Entries, row_value}
+use Rattle.reedsolomon.specs.Steps.{row_value}
 use Rattle.reedsolomon.proofs.Fill.{one_more_block_put}
 use native.Mathlib.Omega.{arith}
 use borrow.Author.Rules.{rules}
@@ -19,8 +17,8 @@ loop-b-preserved c =
     let all = c.locators-all.result in
     let p = c.put in (
       omega arith,
-      p.auto.1.1.1.0 ∙ l.invariant.1,
-      one_more_block_put (goal a.row.now a.d all) 16 l.b c.values-v.result l.r-1 p.new.1.1.1.0 l.invariant.2 p.ensures
+      p.auto.b ∙ l.invariant.1,
+      one_more_block_put (λ (j : ℕ). row_value 6 67 a.row.now a.d (symbol all j)) 16 l.b c.values-v.result l.r p.new.b l.invariant.2 p.ensures
           (λ i u. c.values-v.ensures i u ∙ ap (row_value 6 67 a.row.now a.d) (c.block-xs.ensures i u)),
     )
 

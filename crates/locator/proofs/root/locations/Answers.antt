@@ -1,7 +1,5 @@
 use mathlib.Core.Path.{◌≡◌}
-use Prim.Native.Nat.{◌-◌, ◌≤◌}
-use lib.ListN.{length, length-set}
-use Rattle.reedsolomon.specs.Steps.{Flagged}
+use lib.ListN.{length-set}
 use Rattle.reedsolomon.proofs.Marks.{none_flagged, one_more_flagged}
 use native.Mathlib.Omega.{arith}
 use borrow.Author.Rules.{rules}

@@ -1,11 +1,8 @@
 -- `locator::root::locations` meets its contract: one column a turn of the loop. Assumes nothing.
 use mathlib.Core.Path.{◌≡◌}
 use Prim.Native.Nat.{◌-◌, ◌≤◌}
-use lib.ListN.{length, length-set}
+use lib.ListN.{length}
 use Rattle.reedsolomon.specs.Steps.{Flagged}
-use Rattle.reedsolomon.proofs.Marks.{none_flagged, one_more_flagged}
-use native.Mathlib.Omega.{arith}
-use borrow.Author.Rules.{rules}
 use Rattle.locator.proofs.root.locations.Given as goal
 
 abbrev pub invariant-loop-j : goal.invariant-loop-j

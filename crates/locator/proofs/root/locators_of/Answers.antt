@@ -1,9 +1,7 @@
 use mathlib.Core.Path.{◌≡◌, ap, ◌∙◌}
-use mathlib.Core.Bool.{true}
-use mathlib.Core.Logic.{⊎_elim}
-use Prim.Native.Nat.{ℕ, ◌-◌, ◌≤◌, ◌<◌}
+use Prim.Native.Nat.{◌≤◌}
 use native.Mathlib.Nat.{not-suc-le-zero, lt_irrefl}
-use lib.ListN.{length, length-set}
+use lib.ListN.{length-set}
 use lib.Seq.{get_or-set_other}
 use Rattle.reedsolomon.specs.Words.{count}
 use Rattle.reedsolomon.specs.Row.{symbol, marked}
@@ -14,6 +12,7 @@ use Rattle.reedsolomon.proofs.Remainders.{zeros_at}
 use native.Mathlib.Omega.{arith}
 use borrow.Author.Rules.{rules}
 use Rattle.locator.proofs.root.locators_of.Goals as goal
+use Rattle.locator.proofs.root.locators_of.Goals.{then-flags-j-eq1, else-flags-j-eq1}
 
 pub loop-j-init : goal.loop-j-init
 loop-j-init c = (search rules, search rules, none_counted _, λ i l. absurd (not-suc-le-zero l), λ i l. zeros_at 64 i)
@@ -30,11 +29,13 @@ loop-j-preserved c =
     let l = c.loop-j in
     let n : count (marked a.flags.now) l.j ≤ l.j = count_at_most (marked a.flags.now) l.j in
     let p : symbol c.locators-all.result l.j ≡ locator_at 6 67 63 l.j = c.locators-all.ensures l.j (omega arith) in
-    let up : l.k ≤ c.if-flags-j-eq1.k = ⊎_elim (λ w. omega arith) (λ w. omega arith) c.if-flags-j-eq1.branch in (
+    let up : l.k ≤ c.if-flags-j-eq1.k = elim c.if-flags-j-eq1.branch [ then-flags-j-eq1 w ↦ omega arith | else-flags-j-eq1 w ↦ omega arith ] in (
       omega arith,
       simp length-set (omega arith),
-      ⊎_elim (λ w. omega (arith, one_more_marked a.flags.now l.j w.0.taken)) (λ w. omega (arith, one_more_unmarked a.flags.now l.j w.0.left))
-          c.if-flags-j-eq1.branch,
+      elim c.if-flags-j-eq1.branch [
+        | then-flags-j-eq1 w ↦ omega (arith, one_more_marked a.flags.now l.j w.if-flags-j-eq1.true)
+        | else-flags-j-eq1 w ↦ omega (arith, one_more_unmarked a.flags.now l.j w.if-flags-j-eq1.false)
+      ],
       rw p (one_more_locator 6 67 63 a.flags.now l.xs l.j l.k l.invariant.2 (omega arith) l.invariant.3),
       λ i u. get_or-set_other l.xs l.k i _ 0 (λ y. lt_irrefl i (omega arith)) ∙ l.invariant.4 i (omega arith),
     )

@@ -1,19 +1,11 @@
 -- `locator::root::locators_of` meets its contract: one column a turn of the loop. Assumes nothing.
-use mathlib.Core.Path.{◌≡◌, ap, ◌∙◌}
+use mathlib.Core.Path.{◌≡◌}
 use mathlib.Core.Bool.{true}
-use mathlib.Core.Logic.{⊎_elim}
 use Prim.Native.Nat.{ℕ, ◌-◌, ◌≤◌, ◌<◌}
-use native.Mathlib.Nat.{not-suc-le-zero, lt_irrefl}
-use lib.ListN.{length, length-set}
-use lib.Seq.{get_or-set_other}
+use lib.ListN.{length}
 use Rattle.reedsolomon.specs.Words.{count}
 use Rattle.reedsolomon.specs.Row.{symbol, marked}
 use Rattle.reedsolomon.specs.Steps.{locator_at}
-use Rattle.reedsolomon.proofs.Counting.{count_at_most}
-use Rattle.reedsolomon.proofs.Marks.{none_counted, one_more_marked, one_more_unmarked, one_more_locator, locators_end}
-use Rattle.reedsolomon.proofs.Remainders.{zeros_at}
-use native.Mathlib.Omega.{arith}
-use borrow.Author.Rules.{rules}
 use Rattle.locator.proofs.root.locators_of.Given as goal
 
 abbrev pub invariant-loop-j : goal.invariant-loop-j

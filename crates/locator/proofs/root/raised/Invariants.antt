@@ -1,24 +1,19 @@
 -- `locator::root::raised` meets its contract: one entry a turn of the loop. Assumes nothing.
-use mathlib.Core.Path.{◌≡◌, ap, ◌∙◌}
+use mathlib.Core.Path.{◌≡◌}
 use mathlib.Core.List.{List}
 use Prim.Native.Nat.{ℕ, ◌-◌, ◌≤◌}
-use native.Mathlib.Nat.{le_refl}
-use lib.Bits.{bit_xor}
-use lib.ListN.{length, length-set}
+use lib.ListN.{length}
 use Rattle.poly.specs.Polynomial.{add}
 use Rattle.field.specs.Element.{mul}
 use Rattle.reedsolomon.specs.Row.{symbol}
 use Rattle.reedsolomon.specs.Steps.{Written}
-use Rattle.reedsolomon.proofs.Fill.{nothing_written, one_more_written}
-use native.Mathlib.Omega.{arith}
-use borrow.Author.Rules.{rules}
 use Rattle.locator.proofs.root.raised.Given as goal
 
-abbrev goal : List ℕ → ℕ → List ℕ → ℕ → ℕ
-goal xs c v i = add (mul 6 67 (symbol xs i) (symbol v i)) c
+abbrev meant : List ℕ → ℕ → List ℕ → ℕ → ℕ
+meant xs c v i = add (mul 6 67 (symbol xs i) (symbol v i)) c
 
 abbrev pub invariant-loop-i : goal.invariant-loop-i
-invariant-loop-i l = (l.i ≤ 16) × (length l.v ≡ length l.initial.v) × Written l.i (goal l.xs l.c l.initial.v) l.initial.v l.v
+invariant-loop-i l = (l.i ≤ 16) × (length l.v ≡ length l.initial.v) × Written l.i (meant l.xs l.c l.initial.v) l.initial.v l.v
 
 abbrev pub decreases-loop-i : goal.decreases-loop-i
 decreases-loop-i l = 16 - l.i

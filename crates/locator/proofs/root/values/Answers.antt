@@ -1,17 +1,16 @@
 use mathlib.Core.Path.{◌≡◌, ap, ◌∙◌}
-use Prim.Native.Nat.{ℕ, suc, ◌-◌, ◌+◌, ◌≤◌}
-use lib.ListN.{length}
+use Prim.Native.Nat.{ℕ, suc, ◌-◌, ◌+◌}
 use Rattle.field.proofs.Short.{field64}
 use Rattle.reedsolomon.specs.Sums.{reversed}
 use Rattle.reedsolomon.specs.Row.{symbol}
-use Rattle.reedsolomon.specs.Steps.{Entries, coefficient, row_value}
+use Rattle.reedsolomon.specs.Steps.{coefficient, row_value}
 use Rattle.reedsolomon.proofs.Lanes.{value_at, values_begin, values_go_on}
 use native.Mathlib.Omega.{arith}
 use borrow.Author.Rules.{rules}
 use Rattle.locator.proofs.root.values.Goals as goal
 
 pub loop-k-init : goal.loop-k-init
-loop-k-init c = (search rules, search rules, values_begin 6 67 field64 16 (reversed (suc c.args.d) (coefficient 6 67 c.args.row.now)) c.args.t3)
+loop-k-init c = (search rules, search rules, values_begin 6 67 field64 16 (reversed (suc c.args.d) (coefficient 6 67 c.args.row.now)) c.args.xs)
 
 pub loop-k-preserved : goal.loop-k-preserved
 loop-k-preserved c =
@@ -20,8 +19,8 @@ loop-k-preserved c =
     let r = c.raised in
     let e : 16 + (a.d - l.k) ≡ 16 + (suc a.d - suc l.k) = omega arith in (
       omega arith,
-      r.auto.0 ∙ l.invariant.1,
-      values_go_on 6 67 field64 (reversed (suc a.d) (coefficient 6 67 a.row.now)) a.t3 l.v-1 r.new.0 l.k _ (ap (symbol a.row.now) e) l.invariant.2 r.ensures,
+      r.auto.v ∙ l.invariant.1,
+      values_go_on 6 67 field64 (reversed (suc a.d) (coefficient 6 67 a.row.now)) a.xs l.v r.new.v l.k _ (ap (symbol a.row.now) e) l.invariant.2 r.ensures,
     )
 
 pub returns : goal.returns
@@ -29,4 +28,4 @@ unfolding row_value
 returns c =
     let e : c.loop-k.k ≡ suc c.args.d = omega arith in
     λ i l. c.loop-k.invariant.2 i l
-    ∙ ap (λ (n : ℕ). value_at 6 67 field64 n (reversed (suc c.args.d) (coefficient 6 67 c.args.row.now)) c.args.t3 i) e
+    ∙ ap (λ (n : ℕ). value_at 6 67 field64 n (reversed (suc c.args.d) (coefficient 6 67 c.args.row.now)) c.args.xs i) e

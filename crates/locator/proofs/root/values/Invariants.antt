@@ -1,14 +1,11 @@
 -- `locator::root::values` meets its contract: one coefficient a turn of the loop. Assumes nothing.
-use mathlib.Core.Path.{◌≡◌, ap, ◌∙◌}
-use Prim.Native.Nat.{ℕ, suc, ◌-◌, ◌+◌, ◌≤◌}
+use mathlib.Core.Path.{◌≡◌}
+use Prim.Native.Nat.{suc, ◌-◌, ◌+◌, ◌≤◌}
 use lib.ListN.{length}
 use Rattle.field.proofs.Short.{field64}
 use Rattle.reedsolomon.specs.Sums.{reversed}
-use Rattle.reedsolomon.specs.Row.{symbol}
-use Rattle.reedsolomon.specs.Steps.{Entries, coefficient, row_value}
-use Rattle.reedsolomon.proofs.Lanes.{value_at, values_begin, values_go_on}
-use native.Mathlib.Omega.{arith}
-use borrow.Author.Rules.{rules}
+use Rattle.reedsolomon.specs.Steps.{Entries, coefficient}
+use Rattle.reedsolomon.proofs.Lanes.{value_at}
 use Rattle.locator.proofs.root.values.Given as goal
 
 abbrev pub invariant-loop-k : goal.invariant-loop-k

@@ -1,12 +1,10 @@
 use mathlib.Core.Path.{◌≡◌, refl}
-use Prim.Native.Nat.{ℕ, ◌-◌, ◌/◌, ◌%◌, ◌^◌, ◌≤◌}
+use Prim.Native.Nat.{ℕ}
 use lib.ListN.{get_or}
-use Rattle.poly.specs.Polynomial.{add, scale}
 use Rattle.reedsolomon.specs.Sums.{sum}
 use Rattle.syndromes.specs.Packed.{multiple_in}
 use Rattle.syndromes.proofs.Multiples.{one_digit_more}
 use native.Mathlib.Omega.{arith}
-use borrow.Author.Rules.{rules}
 use Rattle.syndromes.proofs.encoder.multiple.Goals as goal
 
 pub loop-k-init : goal.loop-k-init

@@ -1,13 +1,9 @@
 -- `syndromes::encoder::multiple` meets its contract: one digit of f a turn of the loop. Assumes nothing.
-use mathlib.Core.Path.{◌≡◌, refl}
+use mathlib.Core.Path.{◌≡◌}
 use Prim.Native.Nat.{ℕ, ◌-◌, ◌/◌, ◌%◌, ◌^◌, ◌≤◌}
 use lib.ListN.{get_or}
 use Rattle.poly.specs.Polynomial.{add, scale}
 use Rattle.reedsolomon.specs.Sums.{sum}
-use Rattle.syndromes.specs.Packed.{multiple_in}
-use Rattle.syndromes.proofs.Multiples.{one_digit_more}
-use native.Mathlib.Omega.{arith}
-use borrow.Author.Rules.{rules}
 use Rattle.syndromes.proofs.encoder.multiple.Given as goal
 
 abbrev pub invariant-loop-k : goal.invariant-loop-k

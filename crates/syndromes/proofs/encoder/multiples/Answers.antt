@@ -1,12 +1,10 @@
 use mathlib.Core.Path.{◌≡◌, refl, ◌∙◌}
-use Prim.Native.Nat.{ℕ, suc, ◌+◌, ◌-◌, ◌≤◌, ◌<◌}
+use Prim.Native.Nat.{◌+◌}
 use native.Mathlib.Nat.{not-suc-le-zero, lt_irrefl}
-use lib.ListN.{length, length-set, get_or}
+use lib.ListN.{length-set}
 use lib.Seq.{get_or-set_other}
-use Rattle.syndromes.specs.Packed.{TimesAlpha}
 use Rattle.syndromes.proofs.Multiples.{one_multiple_more, all_multiples}
 use native.Mathlib.Omega.{arith}
-use borrow.Author.Rules.{rules}
 use Rattle.syndromes.proofs.encoder.multiples.Goals as goal
 
 pub loop-k-init : goal.loop-k-init

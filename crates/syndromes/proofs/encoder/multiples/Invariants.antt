@@ -1,13 +1,8 @@
 -- `syndromes::encoder::multiples` meets its contract: each entry is the one before it times α. Assumes nothing.
-use mathlib.Core.Path.{◌≡◌, refl, ◌∙◌}
-use Prim.Native.Nat.{ℕ, suc, ◌+◌, ◌-◌, ◌≤◌, ◌<◌}
-use native.Mathlib.Nat.{not-suc-le-zero, lt_irrefl}
-use lib.ListN.{length, length-set, get_or}
-use lib.Seq.{get_or-set_other}
+use mathlib.Core.Path.{◌≡◌}
+use Prim.Native.Nat.{ℕ, suc, ◌-◌, ◌≤◌, ◌<◌}
+use lib.ListN.{length, get_or}
 use Rattle.syndromes.specs.Packed.{TimesAlpha}
-use Rattle.syndromes.proofs.Multiples.{one_multiple_more, all_multiples}
-use native.Mathlib.Omega.{arith}
-use borrow.Author.Rules.{rules}
 use Rattle.syndromes.proofs.encoder.multiples.Given as goal
 
 abbrev pub invariant-loop-k : goal.invariant-loop-k

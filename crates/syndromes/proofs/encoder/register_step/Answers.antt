@@ -7,7 +7,6 @@ use Rattle.poly.specs.Polynomial.{add}
 use Rattle.syndromes.specs.Packed.{SixWords, multiple_in, multiple_of, number_of}
 use Rattle.syndromes.proofs.Packed.{joined_first}
 use Rattle.syndromes.proofs.Multiples.{multiple_lt, words_with_multiple}
-use borrow.Author.Rules.{rules}
 use Rattle.syndromes.proofs.encoder.register_step.Goals as goal
 
 pub returns : goal.returns

@@ -1,14 +1,12 @@
 use mathlib.Core.Path.{◌≡◌}
-use Prim.Native.Nat.{◌-◌, ◌≤◌}
-use lib.ListN.{length, get_or}
+use lib.ListN.{length}
 use lib.Pow.{pow_pos}
 use Rattle.reedsolomon.proofs.ShortRows.{row_roots_bounded}
-use Rattle.syndromes.specs.Packed.{joined, number_of, Full}
+use Rattle.syndromes.specs.Packed.{joined, number_of}
 use Rattle.syndromes.proofs.Packed.{no_symbol_more}
 use Rattle.syndromes.proofs.Multiples.{generator_in_front, product_in_front}
-use Rattle.syndromes.proofs.Division.{DividedTo, no_data, one_symbol_more, remainder_of_symbols}
+use Rattle.syndromes.proofs.Division.{no_data, one_symbol_more, remainder_of_symbols}
 use native.Mathlib.Omega.{arith}
-use borrow.Author.Rules.{rules}
 use Rattle.syndromes.proofs.encoder.remainder.Goals as goal
 
 pub loop-k-init : goal.loop-k-init
@@ -38,7 +36,7 @@ loop-k-preserved c =
       omega arith,
       full,
       one_symbol_more s.args.t _ g s.args.«data».now (row_roots_bounded _ s.requires.0) _ (product_in_front _ _ _ _ _ _ low middle high) l.k (number_of l.w) (number_of w) (s.requires.1 l.k)
-          (λ i u. no_symbol_more w.low-1 w.middle-1 w.high-1 i full.low-1 full.middle-1 full.high-1 u) l.invariant.2 c.register_step-w.ensures.0,
+          (λ i u. no_symbol_more w.low w.middle w.high i full.low full.middle full.high u) l.invariant.2 c.register_step-w.ensures.0,
     )
 
 pub symbols-requires : goal.symbols-requires

@@ -1,7 +1,6 @@
 -- `syndromes::encoder::shifted` meets its contract: each word takes the next one's first symbol. Assumes nothing.
 use Rattle.syndromes.proofs.Packed.{carried_lt, joined_shift}
 use native.Mathlib.Omega.{arith}
-use borrow.Author.Rules.{rules}
 use Rattle.syndromes.proofs.encoder.shifted.Goals as goal
 
 pub returns : goal.returns

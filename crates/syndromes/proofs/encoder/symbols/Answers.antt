@@ -1,10 +1,8 @@
 use mathlib.Core.Path.{◌≡◌, sym}
-use Prim.Native.Nat.{◌-◌, ◌*◌, ◌/◌, ◌^◌, ◌≤◌}
-use lib.ListN.{length, length-set, replicate}
-use Rattle.reedsolomon.specs.Steps.{Written}
+use lib.ListN.{length-set}
 use Rattle.reedsolomon.proofs.Fill.{nothing_written, one_more_written}
 use native.Mathlib.Nat.{div-one}
-use Rattle.syndromes.specs.Packed.{symbol_in, number_of, Full}
+use Rattle.syndromes.specs.Packed.{number_of}
 use Rattle.syndromes.proofs.Packed.{symbol_at, one_symbol_less}
 use native.Mathlib.Omega.{arith}
 use borrow.Author.Rules.{rules}

@@ -1,14 +1,9 @@
 -- `syndromes::encoder::symbols` meets its contract: one symbol a turn of the loop, the words shifted behind it. Assumes nothing.
-use mathlib.Core.Path.{◌≡◌, sym}
+use mathlib.Core.Path.{◌≡◌}
 use Prim.Native.Nat.{◌-◌, ◌*◌, ◌/◌, ◌^◌, ◌≤◌}
-use lib.ListN.{length, length-set, replicate}
+use lib.ListN.{length, replicate}
 use Rattle.reedsolomon.specs.Steps.{Written}
-use Rattle.reedsolomon.proofs.Fill.{nothing_written, one_more_written}
-use native.Mathlib.Nat.{div-one}
 use Rattle.syndromes.specs.Packed.{symbol_in, number_of, Full}
-use Rattle.syndromes.proofs.Packed.{symbol_at, one_symbol_less}
-use native.Mathlib.Omega.{arith}
-use borrow.Author.Rules.{rules}
 use Rattle.syndromes.proofs.encoder.symbols.Given as goal
 
 abbrev pub invariant-loop-i : goal.invariant-loop-i

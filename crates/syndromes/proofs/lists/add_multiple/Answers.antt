@@ -1,11 +1,4 @@
-use mathlib.Core.Path.{◌≡◌}
-use mathlib.Core.List.{List}
-use Prim.Native.Nat.{ℕ, ◌+◌, ◌-◌, ◌≤◌}
-use lib.ListN.{length, length-set}
-use Rattle.poly.specs.Polynomial.{add}
-use Rattle.field.specs.Element.{mul}
-use Rattle.reedsolomon.specs.Row.{symbol}
-use Rattle.reedsolomon.specs.Steps.{Written}
+use lib.ListN.{length-set}
 use Rattle.reedsolomon.proofs.Fill.{nothing_written, one_more_added}
 use native.Mathlib.Omega.{arith}
 use borrow.Author.Rules.{rules}

@@ -2,21 +2,18 @@
 use mathlib.Core.Path.{◌≡◌}
 use mathlib.Core.List.{List}
 use Prim.Native.Nat.{ℕ, ◌+◌, ◌-◌, ◌≤◌}
-use lib.ListN.{length, length-set}
+use lib.ListN.{length}
 use Rattle.poly.specs.Polynomial.{add}
 use Rattle.field.specs.Element.{mul}
 use Rattle.reedsolomon.specs.Row.{symbol}
 use Rattle.reedsolomon.specs.Steps.{Written}
-use Rattle.reedsolomon.proofs.Fill.{nothing_written, one_more_added}
-use native.Mathlib.Omega.{arith}
-use borrow.Author.Rules.{rules}
 use Rattle.syndromes.proofs.lists.add_multiple.Given as goal
 
-abbrev goal : List ℕ → ℕ → ℕ → List ℕ → ℕ → ℕ
-goal b from f a i = add (symbol a i) (mul 6 67 f (symbol b (from + i)))
+abbrev meant : List ℕ → ℕ → ℕ → List ℕ → ℕ → ℕ
+meant b from f a i = add (symbol a i) (mul 6 67 f (symbol b (from + i)))
 
 abbrev pub invariant-loop-i : goal.invariant-loop-i
-invariant-loop-i l = (l.i ≤ l.n) × (length l.a ≡ length l.initial.a) × Written l.i (goal l.b l.from l.f l.initial.a) l.initial.a l.a
+invariant-loop-i l = (l.i ≤ l.n) × (length l.a ≡ length l.initial.a) × Written l.i (meant l.b l.from l.f l.initial.a) l.initial.a l.a
 
 abbrev pub decreases-loop-i : goal.decreases-loop-i
 decreases-loop-i l = l.n - l.i

@@ -1,10 +1,7 @@
-use mathlib.Core.Path.{◌≡◌, sym}
-use Prim.Native.Nat.{ℕ, ◌-◌, ◌≤◌, ◌<◌}
+use mathlib.Core.Path.{sym}
 use borrow.Author.Count.{below_more}
-use Rattle.reedsolomon.specs.Row.{symbol}
 use Rattle.reedsolomon.proofs.Counting.{true_is_not_false}
 use native.Mathlib.Omega.{arith}
-use borrow.Author.Rules.{rules}
 use Rattle.syndromes.proofs.lists.all_zero.Goals as goal
 
 pub returns-then-a-i-ne0 : goal.returns-then-a-i-ne0

@@ -1,10 +1,6 @@
-use mathlib.Core.Path.{◌≡◌, refl}
-use mathlib.Core.List.{List}
-use Prim.Native.Nat.{ℕ, ◌+◌, ◌-◌, ◌*◌, ◌≤◌}
-use lib.ListN.{length, length-set}
+use mathlib.Core.Path.{refl}
+use lib.ListN.{length-set}
 use Rattle.poly.specs.Polynomial.{add}
-use Rattle.reedsolomon.specs.Row.{symbol}
-use Rattle.reedsolomon.specs.Steps.{Written}
 use Rattle.reedsolomon.proofs.Fill.{nothing_written, one_more_written}
 use native.Mathlib.Omega.{arith}
 use borrow.Author.Rules.{rules}

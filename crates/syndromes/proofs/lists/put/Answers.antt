@@ -1,8 +1,5 @@
 use mathlib.Core.Path.{◌≡◌, refl}
-use Prim.Native.Nat.{◌-◌, ◌≤◌}
-use lib.ListN.{length, length-set}
-use Rattle.reedsolomon.specs.Row.{symbol}
-use Rattle.reedsolomon.specs.Steps.{WrittenAt}
+use lib.ListN.{length-set}
 use Rattle.reedsolomon.proofs.Fill.{nothing_written_at, one_more_written_at}
 use native.Mathlib.Omega.{arith}
 use borrow.Author.Rules.{rules}

@@ -1,12 +1,9 @@
 -- `syndromes::lists::put` meets its contract: one entry a turn of the loop. Assumes nothing.
-use mathlib.Core.Path.{◌≡◌, refl}
+use mathlib.Core.Path.{◌≡◌}
 use Prim.Native.Nat.{◌-◌, ◌≤◌}
-use lib.ListN.{length, length-set}
+use lib.ListN.{length}
 use Rattle.reedsolomon.specs.Row.{symbol}
 use Rattle.reedsolomon.specs.Steps.{WrittenAt}
-use Rattle.reedsolomon.proofs.Fill.{nothing_written_at, one_more_written_at}
-use native.Mathlib.Omega.{arith}
-use borrow.Author.Rules.{rules}
 use Rattle.syndromes.proofs.lists.put.Given as goal
 
 abbrev pub invariant-loop-i : goal.invariant-loop-i

@@ -1,12 +1,12 @@
 use mathlib.Core.Path.{◌≡◌, ap, ◌∙◌}
 use mathlib.Core.Logic.{inl, inr, ⊎_elim}
 use mathlib.Core.List.{List}
-use Prim.Native.Nat.{ℕ, suc, ◌+◌, ◌-◌, ◌≤◌}
-use lib.ListN.{length, length-set}
+use Prim.Native.Nat.{ℕ, suc, ◌+◌, ◌-◌}
+use lib.ListN.{length-set}
 use Rattle.poly.proofs.Sum.{lt_or_le}
 use Rattle.reedsolomon.specs.Row.{symbol}
 use Rattle.reedsolomon.proofs.PowerTable.{locator_in_table}
-use Rattle.syndromes.proofs.Reversal.{Reversed, no_pair, one_pair_more}
+use Rattle.syndromes.proofs.Reversal.{no_pair, one_pair_more}
 use native.Mathlib.Omega.{arith}
 use borrow.Author.Rules.{rules}
 use Rattle.syndromes.proofs.powers.locators.Goals as goal

@@ -1,8 +1,7 @@
-use mathlib.Core.Path.{◌≡◌, sym, ◌∙◌, subst}
-use Prim.Native.Nat.{ℕ, ◌-◌, ◌+◌, ◌*◌, ◌≤◌, ◌<◌}
-use lib.ListN.{length}
+use mathlib.Core.Path.{sym, ◌∙◌, subst}
+use Prim.Native.Nat.{ℕ, ◌+◌, ◌*◌, ◌<◌}
 use Rattle.field.proofs.Short.{field64}
-use Rattle.reedsolomon.proofs.Lanes.{AddedTo, no_block, one_more_block}
+use Rattle.reedsolomon.proofs.Lanes.{no_block, one_more_block}
 use native.Mathlib.Omega.{arith}
 use borrow.Author.Rules.{rules}
 use Rattle.syndromes.proofs.syndrome.summed.Goals as goal
@@ -23,8 +22,8 @@ loop-b-preserved c =
     let y = c.block-y in
     let f = c.add_sums in (
       omega arith,
-      f.auto.1.1.1.0 ∙ l.invariant.1,
-      one_more_block 6 67 field64 a.t l.b a.w.now a.xs.now x.result y.result a.s l.r-1 f.new.1.1.1.0 x.ensures y.ensures l.invariant.2
+      f.auto.s ∙ l.invariant.1,
+      one_more_block 6 67 field64 a.t l.b a.w.now a.xs.now x.result y.result a.s l.r f.new.s x.ensures y.ensures l.invariant.2
           f.ensures,
     )
 

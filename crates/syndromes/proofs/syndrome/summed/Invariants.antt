@@ -1,11 +1,9 @@
 -- `syndromes::syndrome::summed` meets its contract: one block a turn of the loop. Assumes nothing.
-use mathlib.Core.Path.{◌≡◌, sym, ◌∙◌, subst}
-use Prim.Native.Nat.{ℕ, ◌-◌, ◌+◌, ◌*◌, ◌≤◌, ◌<◌}
+use mathlib.Core.Path.{◌≡◌}
+use Prim.Native.Nat.{◌-◌, ◌*◌, ◌≤◌}
 use lib.ListN.{length}
 use Rattle.field.proofs.Short.{field64}
-use Rattle.reedsolomon.proofs.Lanes.{AddedTo, no_block, one_more_block}
-use native.Mathlib.Omega.{arith}
-use borrow.Author.Rules.{rules}
+use Rattle.reedsolomon.proofs.Lanes.{AddedTo}
 use Rattle.syndromes.proofs.syndrome.summed.Given as goal
 
 abbrev pub invariant-loop-b : goal.invariant-loop-b

@@ -1,5 +1,5 @@
 use mathlib.Core.Path.{◌≡◌, refl, ap, ◌∙◌}
-use Prim.Native.Nat.{ℕ, ◌-◌, ◌≤◌}
+use Prim.Native.Nat.{ℕ}
 use Rattle.poly.specs.Polynomial.{add}
 use Rattle.reedsolomon.specs.Sums.{sum}
 use Rattle.reedsolomon.specs.Row.{symbol}

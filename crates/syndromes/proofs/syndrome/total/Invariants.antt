@@ -1,12 +1,9 @@
 -- `syndromes::syndrome::total` meets its contract: one term of the sum a turn of the loop. Assumes nothing.
-use mathlib.Core.Path.{◌≡◌, refl, ap, ◌∙◌}
-use Prim.Native.Nat.{ℕ, ◌-◌, ◌≤◌}
+use mathlib.Core.Path.{◌≡◌}
+use Prim.Native.Nat.{◌-◌, ◌≤◌}
 use Rattle.poly.specs.Polynomial.{add}
 use Rattle.reedsolomon.specs.Sums.{sum}
 use Rattle.reedsolomon.specs.Row.{symbol}
-use Rattle.reedsolomon.proofs.Lanes.{one_more_term}
-use native.Mathlib.Omega.{arith}
-use borrow.Author.Rules.{rules}
 use Rattle.syndromes.proofs.syndrome.total.Given as goal
 
 abbrev pub invariant-loop-i : goal.invariant-loop-i
