@@ -22,9 +22,9 @@ returns-in-Done c =
     let start = c in
     let told = c.enum_told-1.given.1 in
     let text = c.page_text.ensures in record {
-        prefix_len = counted text start.requires.2;
-        printed_for = printed_for start.args.input.now start.args.n start.requires.0 (text.bytes ∙ output_read _ _ _ read.ensures told);
-      }
+      prefix_len = counted text start.requires.2;
+      printed_for = printed_for start.args.input.now start.args.n start.requires.0 (text.bytes ∙ output_read _ _ _ read.ensures told);
+    }
 
 pub returns-in-Refused : goal.returns-in-Refused
 returns-in-Refused c =
@@ -32,6 +32,6 @@ returns-in-Refused c =
     let start = c in
     let told = c.number-1.given.1 in
     let text = c.append_refused.ensures in record {
-        prefix_len = counted text (omega (arith, start.requires.2));
-        printed_for = printed_for start.args.input.now start.args.n start.requires.0 (text.bytes ∙ output_refused _ _ _ _ _ read.ensures told);
-      }
+      prefix_len = counted text (omega (arith, start.requires.2));
+      printed_for = printed_for start.args.input.now start.args.n start.requires.0 (text.bytes ∙ output_refused _ _ _ _ _ read.ensures told);
+    }
