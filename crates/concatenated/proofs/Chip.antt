@@ -1,5 +1,5 @@
 -- Page decoding with a number of places on the stack of each search: on pages where no search pushed a path out it is the supercode decoder's. Assumes nothing.
-use mathlib.Core.Bool.{Bool, false, ◌||◌}
+use mathlib.Core.Bool.{Bool, false}
 use mathlib.Core.List.{List, [], ◌∷◌, map}
 use mathlib.Core.Path.{◌≡◌, refl, sym, ap, ap₂, ◌∙◌, subst⁻¹}
 use Prim.Native.Nat.{ℕ, zero, suc, ◌≤◌, ◌<◌}

@@ -19,7 +19,7 @@ use Rattle.concatenated.specs.Lists.{All, sum, total, listed}
 use Rattle.concatenated.specs.Format.{Format, SoundFormat, data_length}
 use Rattle.concatenated.specs.Outer.{RowDecoder, RowEncoder, OuterLaws}
 use Rattle.concatenated.specs.SoftPage.{Soft, hard_reading, column_off}
-use Rattle.concatenated.specs.Decode.{Reading, found, spent, Reader, mark, marks, count, steps, row_off, changed, Level, level, going, answered, run, Reaches, AtEveryLevel, outcome, decoded}
+use Rattle.concatenated.specs.Decode.{Reading, found, spent, Reader, mark, marks, count, steps, row_off, Level, level, going, answered, run, Reaches, AtEveryLevel, outcome, decoded}
 use Rattle.concatenated.specs.Written.{written_rows, column_symbols, columns_of, row_at, written_sum, bytes_of_rows}
 use Rattle.concatenated.specs.Misread.{other_than, others_than, misread}
 use Rattle.concatenated.specs.Readers.{AllRead}

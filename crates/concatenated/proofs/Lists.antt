@@ -15,6 +15,7 @@ all_map [] f h = tt
 all_map (x ∷ xs) f h = (f x h.0, all_map xs f h.1)
 
 pub all_member : {A : Type 0} (P : A → Type 0) (xs : List A) → All P xs → (x : A) → Mem x xs → P x
+all_member P [] all x m = elim m [ ]
 all_member P (y ∷ xs) all x (inl e) = subst⁻¹ P e all.0
 all_member P (y ∷ xs) all x (inr m) = all_member P xs all.1 x m
 

@@ -1,5 +1,5 @@
 -- 02, point 5: page decoding as the chip makes it: the reader of columns by a search with a number of places, and whether any search made pushed a path out. Assumes nothing.
-use Rattle.std.specs.Prelude.{Bool, false, ◌||◌, List, [], ◌∷◌, ◌≡◌, ℕ, zero, suc}
+use Rattle.std.specs.Prelude.{Bool, false, ◌||◌, List, [], ◌∷◌, ℕ, zero, suc}
 use Rattle.column.specs.Shape.{Shape, levels, short}
 use Rattle.paths.specs.Search.{SearchResult, answer}
 use Rattle.paths.specs.Search

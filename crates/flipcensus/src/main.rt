@@ -9,6 +9,8 @@ ghost use Rattle.search.specs.Outcomes.{SupercodesBelow};
 ghost use Rattle.listing.specs.Text.{Appended};
 ghost use Rattle.flipcensus.specs.Text.{level_text, census_text};
 
+use std::io::Write;
+
 // The lines of a level, by the arrays and masks that are lent; the arrays may hold anything.
 fn append_level(
     sums: &mut [i16; 2002],
@@ -62,15 +64,15 @@ fn census_text(out: &mut [u8]) -> usize
     end
 }
 
-// Writes the output, each line by a write of its own. The library's write promises nothing of the bytes that it takes, so what they are is asked here.
-fn write_output(text: &[u8])
+// Writes the output, each line by a write of its own. The library's write promises nothing of the bytes that standard output takes, so what they are is asked here.
+fn write_output<W: Write>(text: &[u8], out: &mut W) -> std::io::Result<()>
     requires { text.now ≡ census_text }
 {
-    listing::write_lines(text);
+    listing::write_lines(text, out)
 }
 
-fn main() {
+fn main(rt: HostRuntime) -> std::io::Result<()> {
     let mut text = [0u8; 2128];
     let m = census_text(&mut text);
-    write_output(&text[..m]);
+    write_output(&text[..m], &mut rt.stdout())
 }

@@ -1,7 +1,6 @@
 -- 01: "The station's interface", text as the bytes of its ASCII characters: words, decimal numbers, "lower-case hexadecimal". Assumes nothing.
 use Rattle.std.specs.Prelude.{cond, List, [], ◌∷◌, ◌++◌, ◌≡◌, ℕ, zero, suc, ◌+◌, ◌/◌, ◌%◌, ◌≤◌, eqb, ltb, length, take}
 use Prim.Native.Char.{code}
-use Prim.Native.String
 use Prim.Native.String.{String}
 use Rattle.io.specs.Digits.{hex_digit_ascii, last_digits}
 

@@ -1,12 +1,13 @@
 // Lines of text in a buffer: decimal and hexadecimal numbers, the lines of a page's listing (01, "The station's interface"; 02, point 6) and of a census (02, point 14); and their writing.
 #![tactic(auto)]
 
-ghost use Rattle.std.specs.Prelude.{◌≡◌, ◌++◌, ◌+◌, ◌≤◌, ◌<◌, length, drop};
+ghost use Rattle.std.specs.Prelude.{◌≡◌, ◌++◌, ◌+◌, ◌≤◌, ◌<◌, length, drop, OnOk};
+ghost use Rattle.std.specs.Io.KnownBytes.{Appends};
 ghost use Rattle.io.specs.Digits.{hex_digit_ascii};
 ghost use Rattle.listing.specs.Text.{decimal, hex_of, hex_mark, line_length, Appended};
 ghost use Rattle.listing.specs.Lines.{ok_line, columns_text, level_line, level_lines, data_line, refused_line, census_line};
 
-use libc::STDOUT_FILENO;
+use std::io::Write;
 
 // ---- text behind the first `at` bytes of a buffer; each gives the place where it ends
 
@@ -192,12 +193,15 @@ fn line_end(text: &[u8], from: usize) -> usize
     i
 }
 
-// Writes a text to standard output, each line by a write of its own.
-pub fn write_lines(text: &[u8]) {
+// Writes a text, each line by a write of its own.
+pub fn write_lines<W: Write>(text: &[u8], out: &mut W) -> std::io::Result<()>
+    ensures { OnOk result (Appends (W.contents out.old) (W.contents out.new) text.now) }
+{
     let mut start = 0;
     while start < text.len() {
         let end = line_end(text, start);
-        io::write_all(STDOUT_FILENO, &text[start..end]);
+        out.write_all(&text[start..end])?;
         start = end;
     }
+    Ok(())
 }

@@ -12,8 +12,8 @@ ghost use Rattle.listing.specs.Text.{Appended};
 ghost use Rattle.readpage.specs.Report.{decoded_text};
 ghost use Rattle.readpage.specs.Input.{PrintedFor};
 
-use libc::STDIN_FILENO;
 use questions::Outcome;
+use std::io::{Read, Write};
 use store_pages::DEFAULT_LIMIT;
 
 // The lines of a soft page, each value 0..7.
@@ -49,18 +49,33 @@ fn output_of(input: &[u8], n: usize, out: &mut [u8]) -> usize
     }
 }
 
-// Writes the output for the input, each line by a write of its own. The library's write promises nothing of the bytes that it takes, so what they are is asked here.
-fn write_output(input: &[u8], n: usize, text: &[u8])
+// Reads until the buffer is full, the input ends or a read fails, and gives how many bytes stand at its start.
+fn read_full<R: Read>(from: &mut R, buffer: &mut [u8]) -> usize
+    ensures { IsPrefixLen result buffer.new }
+{
+    let mut n = 0;
+    while n < buffer.len() {
+        match from.read(&mut buffer[n..]) {
+            Ok(0) => return n,
+            Ok(more) => n += more,
+            Err(_) => return n,
+        }
+    }
+    n
+}
+
+// Writes the output for the input, each line by a write of its own. The library's write promises nothing of the bytes that standard output takes, so what they are is asked here.
+fn write_output<W: Write>(input: &[u8], n: usize, text: &[u8], out: &mut W) -> std::io::Result<()>
     requires { PrintedFor input.now n text.now }
 {
-    listing::write_lines(text);
+    listing::write_lines(text, out)
 }
 
 // One byte more than a dump is read, so that a longer input shows.
-fn main() {
+fn main(rt: HostRuntime) -> std::io::Result<()> {
     let mut input = [0u8; 2049];
-    let n = io::read_full(STDIN_FILENO, &mut input);
+    let n = read_full(&mut rt.stdin(), &mut input);
     let mut text = [0u8; 813];
     let m = output_of(&input, n, &mut text);
-    write_output(&input, n, &text[..m]);
+    write_output(&input, n, &text[..m], &mut rt.stdout())
 }

@@ -1,5 +1,5 @@
 -- `blocks::block_at` meets its contract: the part that it gives has 512 bytes. Assumes nothing.
-use Rattle.std.proofs.Common.{◌≡◌, ◌+◌, ◌-◌, ◌*◌, arith, rules}
+use Rattle.std.proofs.Common.{◌≡◌, ◌+◌, ◌-◌, ◌*◌, arith}
 use Rattle.dump.specs.Dump.{block_at}
 use Rattle.blocks.proofs.block_at.Goals as goal
 

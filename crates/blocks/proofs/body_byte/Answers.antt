@@ -1,5 +1,5 @@
 -- `blocks::body_byte` meets its contract: each return rewrites with what `holds_value` and `fixed_byte` gave. Assumes nothing.
-use Rattle.std.proofs.Common.{sym, ◌∙◌, arith, rules}
+use Rattle.std.proofs.Common.{sym, ◌∙◌, arith}
 use Rattle.dump.specs.Block.{body_byte}
 use Rattle.dump.proofs.Places.{value_there}
 use Rattle.blocks.proofs.body_byte.Goals as goal

@@ -1,4 +1,4 @@
-use Rattle.std.proofs.Common.{◌≡◌, ℕ, ◌+◌, ◌-◌, ◌*◌, ◌%◌, ◌≤◌, get_or, ap, ◌∙◌, ap₂, mul-le-mul, arith, rules}
+use Rattle.std.proofs.Common.{◌≡◌, ℕ, ◌+◌, ◌*◌, ◌%◌, ◌≤◌, get_or, ap, ◌∙◌, ap₂, mul-le-mul, arith, rules}
 use Rattle.dump.specs.Check.{weighted}
 use Rattle.dump.proofs.Check.{weighted_more}
 use Rattle.blocks.proofs.check_of.Goals as goal
@@ -10,7 +10,7 @@ loop-k-init c = search rules
 pub overflow_mul-term : goal.overflow_mul-term
 overflow_mul-term c =
     let at_loop = c in
-    let byte : c.wide.result ≤ 255 = omega (arith, c.shared_slice_known-in-loop-k-1.given at_loop.loop-k.k, c.wide.ensures) in
+    let byte : c.wide.result ≤ 255 = omega (arith, c.type_inv.block at_loop.loop-k.k, c.wide.ensures) in
     let weight : at_loop.loop-k.weight ≤ 510 = omega arith in
     omega (arith, mul-le-mul weight byte)
 

@@ -1,7 +1,6 @@
 -- `blocks::check_of` meets its contract. The loop's invariant: the running sum is the weighted sum of the bytes passed, modulo 65,536. Assumes nothing.
-use Rattle.std.proofs.Common.{◌≡◌, ℕ, ◌+◌, ◌-◌, ◌*◌, ◌%◌, ◌≤◌, get_or, ap, ◌∙◌, ap₂, mul-le-mul, arith, rules}
+use Rattle.std.proofs.Common.{◌≡◌, ◌+◌, ◌-◌, ◌%◌, ◌≤◌}
 use Rattle.dump.specs.Check.{weighted}
-use Rattle.dump.proofs.Check.{weighted_more}
 use Rattle.blocks.proofs.check_of.Given as goal
 
 abbrev pub invariant-loop-k : goal.invariant-loop-k

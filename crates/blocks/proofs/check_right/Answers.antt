@@ -1,19 +1,19 @@
 -- `blocks::check_right` meets its contract: it compares the two numbers of the definition. Assumes nothing.
-use Rattle.std.proofs.Common.{◌≤◌, arith, rules}
+use Rattle.std.proofs.Common.{◌≤◌, arith}
 use Rattle.dump.specs.Block.{check_right}
 use Rattle.blocks.proofs.check_right.Goals as goal
 
 pub overflow_mul-result : goal.overflow_mul-result
 overflow_mul-result c =
     let first = c in
-    let high : first.wide-high.result ≤ 255 = omega (arith, first.shared_slice_known-2-1.given 510, first.wide-high.ensures) in
+    let high : first.wide-high.result ≤ 255 = omega (arith, first.type_inv.block 510, first.wide-high.ensures) in
     omega arith
 
 pub overflow_add-result : goal.overflow_add-result
 overflow_add-result c =
     let first = c in
-    let high : first.wide-high.result ≤ 255 = omega (arith, first.shared_slice_known-2-1.given 510, first.wide-high.ensures) in
-    let low : c.wide-low.result ≤ 255 = omega (arith, c.shared_slice_known-3-1.given 511, c.wide-low.ensures) in
+    let high : first.wide-high.result ≤ 255 = omega (arith, first.type_inv.block 510, first.wide-high.ensures) in
+    let low : c.wide-low.result ≤ 255 = omega (arith, c.type_inv.block 511, c.wide-low.ensures) in
     omega arith
 
 pub returns : goal.returns

@@ -1,5 +1,5 @@
 -- `blocks::fixed_byte` meets its contract: each return rewrites with the tests that led there. Assumes nothing.
-use Rattle.std.proofs.Common.{rules, eq-eqb, ne_eqb}
+use Rattle.std.proofs.Common.{eq-eqb, ne_eqb}
 use Rattle.dump.specs.Block.{fixed_byte}
 use Rattle.blocks.proofs.fixed_byte.Goals as goal
 

@@ -1,8 +1,8 @@
-use Rattle.std.proofs.Common.{◌≡◌, ℕ, ◌+◌, ◌-◌, ◌≤◌, Bool, true, eqb, List, get_or, sym, ap, ◌∙◌, arith, rules, eq-eqb, ne_eqb}
+use Rattle.std.proofs.Common.{◌≡◌, sym, ap, ◌∙◌, arith, rules, eq-eqb, ne_eqb}
 use Rattle.dump.specs.Listed.{all_below}
-use Rattle.dump.specs.Block.{fixed_byte}
 use Rattle.dump.specs.Parts.{fixed_from}
 use Rattle.dump.proofs.AllBelow.{all_more, all_not}
+use Rattle.blocks.proofs.fixed_from.Invariants.{fixed_at}
 use Rattle.blocks.proofs.fixed_from.Goals as goal
 
 pub loop-k-init : goal.loop-k-init

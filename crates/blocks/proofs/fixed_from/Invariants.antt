@@ -1,12 +1,10 @@
 -- `blocks::fixed_from` meets its contract. The loop's invariant: the bytes passed are right. Assumes nothing.
-use Rattle.std.proofs.Common.{◌≡◌, ℕ, ◌+◌, ◌-◌, ◌≤◌, Bool, true, eqb, List, get_or, sym, ap, ◌∙◌, arith, rules, eq-eqb, ne_eqb}
+use Rattle.std.proofs.Common.{◌≡◌, ℕ, ◌+◌, ◌-◌, ◌≤◌, Bool, true, eqb, List, get_or}
 use Rattle.dump.specs.Listed.{all_below}
 use Rattle.dump.specs.Block.{fixed_byte}
-use Rattle.dump.specs.Parts.{fixed_from}
-use Rattle.dump.proofs.AllBelow.{all_more, all_not}
 use Rattle.blocks.proofs.fixed_from.Given as goal
 
-abbrev fixed_at : List ℕ → ℕ → ℕ → ℕ → Bool
+abbrev pub fixed_at : List ℕ → ℕ → ℕ → ℕ → Bool
 fixed_at block b start k = eqb (get_or block (start + k) 0) (fixed_byte b (start + k))
 
 abbrev pub invariant-loop-k : goal.invariant-loop-k

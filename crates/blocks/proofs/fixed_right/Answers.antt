@@ -1,6 +1,5 @@
 -- `blocks::fixed_right` meets its contract: what its two calls gave is the whole test. Assumes nothing.
-use Rattle.std.proofs.Common.{◌≡◌, true, false, sym, ◌∙◌, rules}
-use borrow.Author.Tests.{not-true, not-false}
+use Rattle.std.proofs.Common.{◌≡◌, true, false, sym, ◌∙◌}
 use Rattle.dump.specs.Parts.{fixed_from}
 use Rattle.dump.proofs.FixedParts.{fixed_in_parts}
 use Rattle.blocks.proofs.fixed_right.Goals as goal
@@ -11,7 +10,7 @@ returns-then-not-fixed_from c =
     let block = start.args.block.now in
     let b = start.args.b in
     let told = c.fixed_from in
-    let front : fixed_from block b 0 16 ≡ false = sym told.ensures ∙ not-true told.result c.if-not-fixed_from.true in
+    let front : fixed_from block b 0 16 ≡ false = sym told.ensures ∙ c.if-not-fixed_from.true in
     simp (fixed_in_parts block b start.requires.1, front)
 
 pub returns : goal.returns
@@ -21,5 +20,5 @@ returns c =
     let block = start.args.block.now in
     let b = start.args.b in
     let told = passed.fixed_from in
-    let front : fixed_from block b 0 16 ≡ true = sym told.ensures ∙ not-false told.result passed.if-not-fixed_from.false in
+    let front : fixed_from block b 0 16 ≡ true = sym told.ensures ∙ passed.if-not-fixed_from.false in
     simp (fixed_in_parts block b start.requires.1, front, c.fixed_from-2.ensures, c.values_of-values.ensures)

@@ -1,5 +1,5 @@
 -- `blocks::holds_value` meets its contract: each return rewrites with the tests that led there. Assumes nothing.
-use Rattle.std.proofs.Common.{rules, le-ltb, lt-ltb, le-leb}
+use Rattle.std.proofs.Common.{le-ltb, lt-ltb, le-leb}
 use borrow.Author.Tests.{lt-leb}
 use Rattle.dump.specs.Block.{holds_value}
 use Rattle.blocks.proofs.holds_value.Goals as goal

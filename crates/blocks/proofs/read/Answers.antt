@@ -1,8 +1,9 @@
-use Rattle.std.proofs.Common.{◌≡◌, ℕ, ◌+◌, ◌-◌, ◌*◌, ◌/◌, ◌≤◌, length, take, drop, sym, ap, ◌∙◌, arith, take_all, rules}
+use Rattle.std.proofs.Common.{◌≡◌, ℕ, ◌+◌, ◌-◌, ◌*◌, ◌≤◌, length, take, drop, sym, ap, ◌∙◌, arith, take_all, rules}
 use Rattle.dump.specs.Dump.{soft_of}
 use Rattle.dump.specs.Parts.{values_of}
 use Rattle.dump.proofs.Blocks.{soft_length, values_of_block}
-use Rattle.packing.proofs.Put.{all_copied, put_more, put_length}
+use Rattle.packing.proofs.Put.{put_more, put_length}
+use Rattle.blocks.proofs.read.Invariants.{values_before}
 use Rattle.blocks.proofs.read.Goals as goal
 
 pub loop-b-preserved : goal.loop-b-preserved
@@ -16,18 +17,18 @@ loop-b-preserved c =
     let counted = c.values_of-n in
     let n = counted.result in
     let count : n ≡ values_of b = counted.ensures in
-    let made = c.copy in
+    let made = c.copy_from_slice in
     let size : b * 512 + 16 + n - (b * 512 + 16) ≡ n = omega arith in
-    let part : made.new.1.0 ≡ take n (drop (b * 480) (soft_of dump)) =
-    made.ensures.1 ∙ all_copied _ _ (search rules) ∙ ap (λ (m : ℕ). take m (drop (b * 512 + 16) dump)) size ∙ values_of_block dump b n (omega arith) (omega arith) (omega arith) in
+    let part : made.new.self ≡ take n (drop (b * 480) (soft_of dump)) =
+    made.ensures.after ∙ ap (λ (m : ℕ). take m (drop (b * 512 + 16) dump)) size ∙ values_of_block dump b n (omega arith) (omega arith) (omega arith) in
     let room : b * 480 + n ≤ length out = omega arith in
     let long : b * 480 + n ≤ length (soft_of dump) = omega (arith, soft_length dump) in
     let now_at : values_before b ≡ b * 480 = omega arith in
     let then_at : values_before (b + 1) ≡ b * 480 + n = omega arith in
     let front : take (b * 480) out ≡ take (b * 480) (soft_of dump) = rw now_at at inv.2 in (
       search rules,
-      put_length out (soft_of dump) made.new.1.0 (b * 480) n room long part ∙ inv.1,
-      rw then_at (put_more out (soft_of dump) made.new.1.0 (b * 480) n room long part front),
+      put_length out (soft_of dump) made.new.self (b * 480) n room long part ∙ inv.1,
+      rw then_at (put_more out (soft_of dump) made.new.self (b * 480) n room long part front),
     )
 
 pub returns : goal.returns

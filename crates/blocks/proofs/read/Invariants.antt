@@ -1,13 +1,10 @@
 -- `blocks::read` meets its contract. The loop's invariant: the values of the blocks passed stand in front. Assumes nothing.
-use Rattle.std.proofs.Common.{◌≡◌, ℕ, ◌+◌, ◌-◌, ◌*◌, ◌/◌, ◌≤◌, length, take, drop, sym, ap, ◌∙◌, arith, take_all, rules}
+use Rattle.std.proofs.Common.{◌≡◌, ℕ, ◌-◌, ◌*◌, ◌/◌, ◌≤◌, length, take}
 use Rattle.dump.specs.Dump.{soft_of}
-use Rattle.dump.specs.Parts.{values_of}
-use Rattle.dump.proofs.Blocks.{soft_length, values_of_block}
-use Rattle.packing.proofs.Put.{all_copied, put_more, put_length}
 use Rattle.blocks.proofs.read.Given as goal
 
 -- how many values the blocks before b hold
-abbrev values_before : ℕ → ℕ
+abbrev pub values_before : ℕ → ℕ
 values_before b = b * 480 - b / 4 * 30
 
 abbrev pub invariant-loop-b : goal.invariant-loop-b

@@ -1,4 +1,4 @@
-use Rattle.std.proofs.Common.{◌≡◌, ◌+◌, ◌-◌, ◌*◌, ◌≤◌, length, take, drop, sym, ◌∙◌, arith, take_all, rules}
+use Rattle.std.proofs.Common.{◌≡◌, ◌+◌, ◌*◌, ◌≤◌, length, take, drop, sym, ◌∙◌, arith, take_all, rules}
 use Rattle.dump.specs.Dump.{dump_of, block_at}
 use Rattle.dump.proofs.Blocks.{dump_length, block_of_dump}
 use Rattle.packing.proofs.Put.{put_more, put_length}
@@ -13,7 +13,7 @@ loop-b-preserved c =
     let b = at_loop.loop-b.b in
     let inv = at_loop.loop-b.invariant in
     let made = c.write_block in
-    let block = made.new.1.1.0 in
+    let block = made.new.out in
     let part : block ≡ take 512 (drop (b * 512) (dump_of soft)) = made.ensures ∙ sym (block_of_dump soft b (omega arith)) in
     let room : b * 512 + 512 ≤ length out = omega arith in
     let long : b * 512 + 512 ≤ length (dump_of soft) = omega (arith, dump_length soft) in

@@ -1,8 +1,6 @@
 -- `blocks::write` meets its contract. The loop's invariant: the blocks passed stand in front. Assumes nothing.
-use Rattle.std.proofs.Common.{◌≡◌, ◌+◌, ◌-◌, ◌*◌, ◌≤◌, length, take, drop, sym, ◌∙◌, arith, take_all, rules}
-use Rattle.dump.specs.Dump.{dump_of, block_at}
-use Rattle.dump.proofs.Blocks.{dump_length, block_of_dump}
-use Rattle.packing.proofs.Put.{put_more, put_length}
+use Rattle.std.proofs.Common.{◌≡◌, ◌-◌, ◌*◌, ◌≤◌, length, take}
+use Rattle.dump.specs.Dump.{dump_of}
 use Rattle.blocks.proofs.write.Given as goal
 
 abbrev pub invariant-loop-b : goal.invariant-loop-b

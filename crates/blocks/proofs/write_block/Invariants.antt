@@ -1,11 +1,7 @@
 -- `blocks::write_block` meets its contract. The loop's invariant: the bytes passed stand in front. Assumes nothing.
-use Rattle.std.proofs.Common.{◌≡◌, ℕ, ◌-◌, ◌/◌, ◌%◌, ◌≤◌, List, [], ◌∷◌, ◌++◌, length, take, sym, ap, ◌∙◌, ap₂, arith, length-set, rules}
-use Rattle.dump.specs.Check.{check_of}
+use Rattle.std.proofs.Common.{◌≡◌, ◌-◌, ◌≤◌, length, take}
 use Rattle.dump.specs.Listed.{listed}
-use Rattle.dump.specs.Block.{body_byte, body_of, block_of}
-use Rattle.dump.proofs.Check.{weighted_take}
-use Rattle.dump.proofs.Listed.{filled_more}
-use Rattle.dump.proofs.LastTwo.{last_two_set}
+use Rattle.dump.specs.Block.{body_byte}
 use Rattle.blocks.proofs.write_block.Given as goal
 
 abbrev pub invariant-loop-k : goal.invariant-loop-k

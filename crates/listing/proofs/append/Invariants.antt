@@ -1,11 +1,8 @@
 -- `listing::append` meets its contract. The loop's invariant: the bytes passed stand behind what was there. Assumes nothing.
-use mathlib.Core.Path.{◌≡◌, refl}
+use mathlib.Core.Path.{◌≡◌}
 use mathlib.Core.List.{◌++◌}
 use Prim.Native.Nat.{◌+◌, ◌-◌, ◌≤◌}
-use native.Mathlib.Omega.{arith}
-use borrow.Author.Rules.{rules}
-use lib.ListN.{length, take, length-set}
-use Rattle.listing.proofs.Appended.{copied_none, copied_more, copied_all}
+use lib.ListN.{length, take}
 use Rattle.listing.proofs.append.Given as goal
 
 abbrev pub invariant-loop-i : goal.invariant-loop-i

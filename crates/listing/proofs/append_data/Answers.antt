@@ -1,5 +1,4 @@
 -- `listing::append_data` meets its contract: its pieces one behind the other. Assumes nothing.
-use borrow.Author.Rules.{rules}
 use Rattle.listing.specs.Text.{ascii}
 use Rattle.listing.specs.Lines.{data_line}
 use Rattle.listing.proofs.Appended.{then}

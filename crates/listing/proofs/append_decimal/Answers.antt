@@ -12,8 +12,8 @@ pub append-requires : goal.append-requires
 append-requires c =
     let digits = c.decimal-k in
     let args = c.args in
-    let few : digits.result ≤ 20 = at_most_20 digits.result args.n (search rules) digits.ensures.1.0 in
-    let counts : digits.result ≡ length (take digits.result digits.new.1.0) = digits.ensures.0.1 in
+    let few : digits.result ≤ 20 = at_most_20 digits.result args.n (search rules) digits.ensures.len in
+    let counts : digits.result ≡ length (take digits.result digits.new.out) = digits.ensures.in_bounds.1 in
     omega (arith, counts, few)
 
 pub returns : goal.returns
@@ -21,5 +21,5 @@ returns c =
     let digits = c.decimal-k in
     let k = digits.result in
     let n = c.args.n in
-    let few : k ≤ 20 = at_most_20 k n (search rules) digits.ensures.1.0 in
-    as_text (digits.ensures.1.1 ∙ digits_are_decimal k 20 n few digits.ensures.1.0) (omega (arith, few, digits.ensures.0.1)) c.append.ensures
+    let few : k ≤ 20 = at_most_20 k n (search rules) digits.ensures.len in
+    as_text (digits.ensures.digits ∙ digits_are_decimal k 20 n few digits.ensures.len) (omega (arith, few, digits.ensures.in_bounds.1)) c.append.ensures

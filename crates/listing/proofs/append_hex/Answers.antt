@@ -1,10 +1,7 @@
-use mathlib.Core.Path.{◌≡◌, refl}
-use mathlib.Core.List.{◌++◌}
-use Prim.Native.Nat.{◌+◌, ◌-◌, ◌*◌, ◌≤◌}
+use mathlib.Core.Path.{refl}
 use native.Mathlib.Omega.{arith}
 use borrow.Author.Rules.{rules}
-use lib.ListN.{length, take, length-set}
-use Rattle.listing.specs.Text.{hex_of}
+use lib.ListN.{length-set}
 use Rattle.listing.proofs.Hex.{hex_none, hex_more, hex_all}
 use Rattle.listing.proofs.append_hex.Goals as goal
 
@@ -12,7 +9,7 @@ pub loop-i-init : goal.loop-i-init
 loop-i-init c = let args = c.args in (search rules, refl, hex_none args.out.now args.bytes.now args.at)
 
 pub hex_digit-requires : goal.hex_digit-requires
-hex_digit-requires c = omega (arith, c.shared_slice_known-in-loop-i-1.given c.loop-i.i)
+hex_digit-requires c = omega (arith, c.type_inv.bytes c.loop-i.i)
 
 pub bounds-out-high-in-loop-i : goal.bounds-out-high-in-loop-i
 bounds-out-high-in-loop-i c = rw length-set (omega arith)

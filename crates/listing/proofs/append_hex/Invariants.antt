@@ -1,12 +1,9 @@
 -- `listing::append_hex` meets its contract. The loop's invariant: the bytes passed stand in hexadecimal behind what was there. Assumes nothing.
-use mathlib.Core.Path.{◌≡◌, refl}
+use mathlib.Core.Path.{◌≡◌}
 use mathlib.Core.List.{◌++◌}
 use Prim.Native.Nat.{◌+◌, ◌-◌, ◌*◌, ◌≤◌}
-use native.Mathlib.Omega.{arith}
-use borrow.Author.Rules.{rules}
-use lib.ListN.{length, take, length-set}
+use lib.ListN.{length, take}
 use Rattle.listing.specs.Text.{hex_of}
-use Rattle.listing.proofs.Hex.{hex_none, hex_more, hex_all}
 use Rattle.listing.proofs.append_hex.Given as goal
 
 abbrev pub invariant-loop-i : goal.invariant-loop-i

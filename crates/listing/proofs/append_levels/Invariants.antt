@@ -1,12 +1,7 @@
 -- `listing::append_levels` meets its contract: the lines of the levels passed stand one behind the other. Assumes nothing.
-use Prim.Native.Nat.{ℕ, ◌-◌, ◌*◌, ◌≤◌}
-use native.Mathlib.Omega.{arith}
-use borrow.Author.Rules.{rules}
-use mathlib.Core.Path.{◌≡◌, refl, ap}
-use mathlib.Core.List.{List}
+use Prim.Native.Nat.{◌-◌, ◌*◌, ◌≤◌}
 use Rattle.listing.specs.Text.{Appended}
 use Rattle.listing.specs.Lines.{level_lines}
-use Rattle.listing.proofs.Appended.{appended_none, as_text, one_line_more}
 use Rattle.listing.proofs.append_levels.Given as goal
 
 abbrev pub invariant-loop-level : goal.invariant-loop-level

@@ -13,13 +13,13 @@ pub append-requires : goal.append-requires
 append-requires c =
     let given = c.hex-k in
     let args = c.args in
-    let all : given.result ≡ 16 = sixteen given.result args.mark (search rules) given.ensures.1.0 in
-    let counts : given.result ≡ length (take given.result given.new.1.1.0) = given.ensures.0.1 in
+    let all : given.result ≡ 16 = sixteen given.result args.mark (search rules) given.ensures.len in
+    let counts : given.result ≡ length (take given.result given.new.out) = given.ensures.in_bounds.1 in
     omega (arith, counts, all)
 
 pub returns : goal.returns
 returns c =
     let given = c.hex-k in
     let mark = c.args.mark in
-    let all : given.result ≡ 16 = sixteen given.result mark (search rules) given.ensures.1.0 in
-    as_text (given.ensures.1.1 ∙ ap (λ (k : ℕ). last_digits 16 k mark) all) (omega (arith, all, given.ensures.0.1)) c.append.ensures
+    let all : given.result ≡ 16 = sixteen given.result mark (search rules) given.ensures.len in
+    as_text (given.ensures.digits ∙ ap (λ (k : ℕ). last_digits 16 k mark) all) (omega (arith, all, given.ensures.in_bounds.1)) c.append.ensures

@@ -1,5 +1,4 @@
 -- `listing::append_number` meets its contract: the number behind the words. Assumes nothing.
-use borrow.Author.Rules.{rules}
 use Rattle.listing.proofs.Appended.{then}
 use Rattle.listing.proofs.append_number.Goals as goal
 

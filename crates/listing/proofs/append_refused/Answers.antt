@@ -1,6 +1,5 @@
 -- `listing::append_refused` meets its contract: its pieces one behind the other. Assumes nothing.
 use mathlib.Core.List.{append_assoc}
-use borrow.Author.Rules.{rules}
 use Rattle.listing.specs.Text.{ascii}
 use Rattle.listing.specs.Lines.{refused_line}
 use Rattle.listing.proofs.Appended.{then}

@@ -1,11 +1,8 @@
 -- `listing::line_end` meets its contract. The loop's invariant: the line ends where the rest of it from here ends. Assumes nothing.
-use mathlib.Core.Path.{◌≡◌, ap, sym, ◌∙◌}
-use Prim.Native.Nat.{ℕ, ◌+◌, ◌-◌, ◌≤◌}
-use native.Mathlib.Omega.{arith}
-use borrow.Author.Rules.{rules}
+use mathlib.Core.Path.{◌≡◌}
+use Prim.Native.Nat.{◌+◌, ◌-◌, ◌≤◌}
 use lib.ListN.{length, drop}
 use Rattle.listing.specs.Text.{line_length}
-use Rattle.listing.proofs.Lines.{line_more, line_here, line_none}
 use Rattle.listing.proofs.line_end.Given as goal
 
 abbrev pub invariant-loop-i : goal.invariant-loop-i

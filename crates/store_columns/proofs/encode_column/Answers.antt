@@ -8,7 +8,6 @@ use Rattle.questions.specs.Questions.{first_above}
 use Rattle.questions.proofs.FirstAbove.{read_in_range}
 use Rattle.store_columns.proofs.Entries.{column_of_entries}
 use native.Mathlib.Omega.{arith}
-use borrow.Author.Rules.{rules}
 use Rattle.questions.proofs.Answered.{answered}
 use Rattle.store_columns.proofs.encode_column.Goals as goal
 

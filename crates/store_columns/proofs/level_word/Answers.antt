@@ -1,6 +1,5 @@
 -- `store_columns::level_word` meets its contract: each return rewrites with the tests that led there. Assumes nothing.
 use borrow.Author.Tests.{le-ltb, lt-ltb}
-use borrow.Author.Rules.{rules}
 use Rattle.questions.proofs.Answered.{answered}
 use Rattle.store_columns.proofs.level_word.Goals as goal
 

@@ -1,7 +1,6 @@
 -- `store_columns::reimage` meets its contract: each return rewrites with the tests that led there. Assumes nothing.
 use mathlib.Core.Path.{sym, ◌∙◌}
-use borrow.Author.Tests.{le-ltb, lt-ltb, not-true, not-false}
-use borrow.Author.Rules.{rules}
+use borrow.Author.Tests.{le-ltb, lt-ltb}
 use Rattle.questions.proofs.Answered.{answered}
 use Rattle.store_columns.proofs.reimage.Goals as goal
 
@@ -14,10 +13,10 @@ returns-then-column-ge1073741824 c = answered (simp (lt-ltb _ _ c.if-level-ge4.f
 pub returns-then-not-is_word : goal.returns-then-not-is_word
 returns-then-not-is_word c =
     let asked = c in
-    answered (simp (lt-ltb _ _ asked.if-level-ge4.false, lt-ltb _ _ asked.if-column-ge1073741824.false, sym c.is_IsWord.ensures ∙ not-true c.is_IsWord.result c.if-not-is_word.true))
+    answered (simp (lt-ltb _ _ asked.if-level-ge4.false, lt-ltb _ _ asked.if-column-ge1073741824.false, sym c.is_word.ensures ∙ c.if-not-is_word.true))
 
 pub returns : goal.returns
 returns c =
     let told = c in
     let asked = told in
-    answered (simp (lt-ltb _ _ asked.if-level-ge4.false, lt-ltb _ _ asked.if-column-ge1073741824.false, sym told.is_IsWord.ensures ∙ not-false told.is_IsWord.result c.if-not-is_word.false, c.reimage.ensures))
+    answered (simp (lt-ltb _ _ asked.if-level-ge4.false, lt-ltb _ _ asked.if-column-ge1073741824.false, sym told.is_word.ensures ∙ c.if-not-is_word.false, c.reimage.ensures))

@@ -2,7 +2,6 @@
 use mathlib.Core.Path.{refl, ◌∙◌, ap, sym}
 use lib.ListN.{length}
 use borrow.Author.Rules.{rules}
-use borrow.Author.Tests.{not-true, not-false}
 use Rattle.dump.proofs.Blocks.{length_of_block}
 use Rattle.store_dumps.proofs.BlockFaults.{block_number}
 use Rattle.store_dumps.proofs.ask_block.Goals as goal
@@ -15,7 +14,7 @@ fixed_right-requires c =
 pub returns-then-not-fixed_right : goal.returns-then-not-fixed_right
 returns-then-not-fixed_right c =
     let taken = c in
-    sym (block_number _ _ taken.block_at-block.ensures c.fixed_right.ensures refl ∙ simp (not-true c.fixed_right.result c.if-not-fixed_right.true))
+    sym (block_number _ _ taken.block_at-block.ensures c.fixed_right.ensures refl ∙ simp c.if-not-fixed_right.true)
 
 pub check_right-requires : goal.check_right-requires
 check_right-requires c =
@@ -28,11 +27,11 @@ returns-then-not-check_right c =
     let passed = c in
     let taken = passed in
     let told = block_number _ _ taken.block_at-block.ensures passed.fixed_right.ensures c.check_right.ensures in
-    sym (told ∙ simp (not-false passed.fixed_right.result passed.if-not-fixed_right.false, not-true c.check_right.result c.if-not-check_right.true))
+    sym (told ∙ simp (passed.if-not-fixed_right.false, c.if-not-check_right.true))
 
 pub returns : goal.returns
 returns c =
     let passed = c in
     let taken = passed in
     let told = block_number _ _ taken.block_at-block.ensures passed.fixed_right.ensures c.check_right.ensures in
-    sym (told ∙ simp (not-false passed.fixed_right.result passed.if-not-fixed_right.false, not-false c.check_right.result c.if-not-check_right.false))
+    sym (told ∙ simp (passed.if-not-fixed_right.false, c.if-not-check_right.false))

@@ -1,12 +1,8 @@
-use mathlib.Core.Path.{◌≡◌, ◌∙◌, sym}
-use Prim.Native.Nat.{ℕ, ◌≤◌, ◌<◌, ◌-◌}
+use mathlib.Core.Path.{◌∙◌, sym}
 use native.Mathlib.Omega.{arith}
 use borrow.Author.Count.{below_more}
 use borrow.Author.Rules.{rules}
 use borrow.Author.Tests.{eq-eqb, ne_eqb}
-use Rattle.questions.specs.Outcome.{number}
-use Rattle.questions.specs.declared.Outcome.TheVariants.{Done}
-use Rattle.store_dumps.specs.Dumps.{ask_block}
 use Rattle.store_dumps.proofs.BlockFaults.{first_bad_block_is_named, value_refused, values_passed}
 use Rattle.questions.proofs.Filled.{refused, done}
 use Rattle.store_dumps.proofs.read_dump.Goals as goal

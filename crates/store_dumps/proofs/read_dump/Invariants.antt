@@ -1,15 +1,9 @@
 -- `store_dumps::read_dump` meets its contract. The loop's invariant: the blocks passed answer 7 and 8 with yes. Each return rewrites with the tests that led there. Assumes nothing.
-use mathlib.Core.Path.{◌≡◌, ◌∙◌, sym}
+use mathlib.Core.Path.{◌≡◌}
 use Prim.Native.Nat.{ℕ, ◌≤◌, ◌<◌, ◌-◌}
-use native.Mathlib.Omega.{arith}
-use borrow.Author.Count.{below_more}
-use borrow.Author.Rules.{rules}
-use borrow.Author.Tests.{eq-eqb, ne_eqb}
 use Rattle.questions.specs.Outcome.{number}
 use Rattle.questions.specs.declared.Outcome.TheVariants.{Done}
 use Rattle.store_dumps.specs.Dumps.{ask_block}
-use Rattle.store_dumps.proofs.BlockFaults.{first_bad_block_is_named, value_refused, values_passed}
-use Rattle.questions.proofs.Filled.{refused, done}
 use Rattle.store_dumps.proofs.read_dump.Given as goal
 
 abbrev pub invariant-loop-b : goal.invariant-loop-b

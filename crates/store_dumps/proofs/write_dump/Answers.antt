@@ -1,7 +1,6 @@
 -- `store_dumps::write_dump` meets its contract: each return rewrites with the tests that led there. Assumes nothing.
 use mathlib.Core.Path.{◌≡◌}
 use Prim.Native.Nat.{◌≤◌, ◌<◌}
-use borrow.Author.Rules.{rules}
 use borrow.Author.Tests.{le-leb, lt-leb, eq-eqb, ne_eqb}
 use Rattle.questions.specs.Questions.{first_above}
 use Rattle.questions.proofs.Filled.{refused, done}

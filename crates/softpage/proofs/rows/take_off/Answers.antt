@@ -1,16 +1,14 @@
 use mathlib.Core.Path.{◌≡◌, sym, ap₂, ◌∙◌, subst⁻¹}
-use Prim.Native.Nat.{ℕ, ◌-◌, ◌<◌}
+use Prim.Native.Nat.{ℕ, ◌<◌}
 use mathlib.Core.List.{List, []}
 use lib.ListN.{length}
 use Rattle.column.specs.Shape.{short}
 use Rattle.concatenated.specs.SoftPage.{Soft, column_off}
-use Rattle.concatenated.specs.Decode.{row_off}
-use Rattle.concatenated.proofs.Filling.{InPlace, in_place_none, in_place_at, in_place_more, front_all}
+use Rattle.concatenated.proofs.Filling.{in_place_none, in_place_at, in_place_more, front_all}
 use Rattle.concatenated.proofs.Lists.{all_at}
 use Rattle.concatenated.proofs.Columns.{row_off_length}
 use Rattle.concatenated.proofs.Entries.{row_off_at}
 use native.Mathlib.Omega.{arith}
-use borrow.Author.Rules.{rules}
 use Rattle.softpage.proofs.rows.take_off.Goals as goal
 
 pub loop-j-init : goal.loop-j-init
@@ -22,9 +20,9 @@ overflow_cast-row c = record { fits = omega (arith, c.requires.2.1 c.loop-j.j c.
 pub level_word-w-requires : goal.level_word-w-requires
 level_word-w-requires c =
     let start = c in record {
-        level_bound = start.requires.0;
-        symbol_bound = start.requires.2.1 c.loop-j.j c.loop-j-test.true;
-      }
+      level_bound = start.requires.0;
+      symbol_bound = start.requires.2.1 c.loop-j.j c.loop-j-test.true;
+    }
 
 pub column_off-requires : goal.column_off-requires
 column_off-requires c =

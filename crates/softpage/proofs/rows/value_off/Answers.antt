@@ -5,7 +5,6 @@ use native.Mathlib.Nat
 use native.Mathlib.Omega.{arith}
 use lib.Bits.{bit_xor, xor_zero_r, xor_add_and, and_mask}
 use lib.Pow.{field, mod-mod-pow}
-use borrow.Author.Rules.{rules}
 use Rattle.packing.specs.Packing.{digit}
 use Rattle.concatenated.specs.Soft.{taken_off_by}
 use Rattle.softpage.proofs.rows.value_off.Goals as goal

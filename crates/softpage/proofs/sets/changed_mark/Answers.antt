@@ -1,8 +1,8 @@
 use mathlib.Core.Path.{◌≡◌, sym, ap, ◌∙◌}
-use Prim.Native.Nat.{◌-◌, ◌<◌}
+use Prim.Native.Nat.{◌<◌}
 use mathlib.Core.Bool.{Bool, false}
 use mathlib.Core.List.{map}
-use lib.ListN.{length, length-map, get_or, take}
+use lib.ListN.{length, length-map, get_or}
 use lib.Seq.{take_all}
 use Rattle.concatenated.specs.Decode.{is_changed, changed}
 use Rattle.concatenated.specs.Flags.{flag, is_one}
@@ -11,7 +11,6 @@ use Rattle.column.proofs.Tabulated.{map_at}
 use Rattle.concatenated.proofs.Entries.{changed_length, changed_at}
 use Rattle.concatenated.proofs.Marks.{mark_none, mark_more}
 use native.Mathlib.Omega.{arith}
-use borrow.Author.Rules.{rules}
 use Rattle.softpage.proofs.sets.changed_mark.Goals as goal
 
 pub loop-j-init : goal.loop-j-init

@@ -1,15 +1,14 @@
-use mathlib.Core.Path.{◌≡◌, sym, ap, ◌∙◌}
-use Prim.Native.Nat.{◌-◌, ◌<◌}
+use mathlib.Core.Path.{sym, ap, ◌∙◌}
+use Prim.Native.Nat.{◌<◌}
 use mathlib.Core.Bool.{false}
 use mathlib.Core.List.{map}
-use lib.ListN.{length, length-map, take}
+use lib.ListN.{length, length-map}
 use lib.Seq.{take_all}
 use Rattle.concatenated.specs.Flags.{flag, is_one}
 use Rattle.concatenated.specs.Marks.{mark_of}
 use Rattle.column.proofs.Tabulated.{map_at}
 use Rattle.concatenated.proofs.Marks.{mark_none, mark_more}
 use native.Mathlib.Omega.{arith}
-use borrow.Author.Rules.{rules}
 use Rattle.softpage.proofs.sets.mark_of.Goals as goal
 
 pub loop-j-init : goal.loop-j-init

@@ -1,12 +1,10 @@
 use mathlib.Core.Path.{refl, sym, ◌∙◌}
-use Prim.Native.Nat.{◌-◌, ◌<◌}
-use Rattle.concatenated.proofs.Filling.{Front, front_none, front_more, front_all}
-use mathlib.Core.List.{map}
+use Prim.Native.Nat.{◌<◌}
+use Rattle.concatenated.proofs.Filling.{front_none, front_more, front_all}
 use lib.Count.{ones}
 use lib.ListN.{length, length-map}
 use Rattle.column.proofs.Tabulated.{map_at}
 use native.Mathlib.Omega.{arith}
-use borrow.Author.Rules.{rules}
 use Rattle.softpage.proofs.sets.totals.Goals as goal
 
 pub loop-i-init : goal.loop-i-init
