@@ -1,4 +1,5 @@
 -- `readings::enter` meets its contract: the outcome's two cases. Assumes nothing.
+use mir.Syntax.{w16}
 use mathlib.Core.Path.{sym, ap, ap₂, ◌∙◌, subst}
 use mathlib.Core.List.{[], ◌∷◌}
 use mir.Facts.{to_z-of_z}
@@ -17,9 +18,9 @@ use Rattle.readings.proofs.enter.Goals as goal
 pub reimage-requires : goal.reimage-requires
 reimage-requires c =
     record {
-        level_bound = c.requires.0;
-        column_bound = subst WordInRange c.in-Found.is c.requires.1;
-      }
+      level_bound = c.requires.0;
+      column_bound = subst WordInRange c.in-Found.is c.requires.1;
+    }
 
 pub overflow_cast-result : goal.overflow_cast-result
 overflow_cast-result c =
@@ -32,7 +33,7 @@ returns-in-Found c =
       c.reimage.ensures ∙ ap (λ (x : SearchOutcome). symbol short c.args.level (as_reading c.args.limit x)) e,
       ap (λ (x : SearchOutcome). flag (mark (as_reading c.args.limit x))) e,
       ap (λ (x : SearchOutcome). count (as_reading c.args.limit x)) e,
-      to_z-of_z (record { sfits = c.lower.type_inv }) ∙ c.lower.ensures ∙ ap₂ lower (to_z-of_z c.ranges.lowest) (to_z-of_z (record { sfits = search rules })) ∙ ap (λ (x : SearchOutcome). lowest_from c.args.lowest (lows (as_reading c.args.limit x ∷ []))) e,
+      to_z-of_z {w = w16} (record { sfits = c.lower.type_inv }) ∙ c.lower.ensures ∙ ap₂ lower (to_z-of_z c.ranges.lowest) (to_z-of_z {w = w16} (record { sfits = search rules })) ∙ ap (λ (x : SearchOutcome). lowest_from c.args.lowest (lows (as_reading c.args.limit x ∷ []))) e,
     )
 
 pub returns-in-Spent : goal.returns-in-Spent
