@@ -86,7 +86,7 @@ loop-level-preserved c =
     let given = c.settle_level-out.ensures.count_value in
     let few = subst (λ (n : ℕ). n ≤ 126000) (sym given.0) (read_of c.before).read-row.ensures.0.few in
     let longs = as_many _ _ _ _ _ _ _ (length-map turn.loop-level.work (chip_reader turn.args.limit turn.loop-level.level) ∙ turn.loop-level.inv.0.soft.many) (read_of c.before).read-row.ensures.0 in (
-      decoding_more _ _ _ _ _ _ _ _ _ turn.loop-level.inv.0 here _ _ (done_of c) c.if-not-settled.false few given.1 _ (omega arith) _ (to_z-of_z (record { sfits = search rules })),
+      decoding_more _ _ _ _ _ _ _ _ _ turn.loop-level.inv.0 here _ _ (done_of c) c.if-not-settled.false few given.1 _ (omega arith) _ (to_z-of_z {w = w16} (record { sfits = search rules })),
       pushed_of c.before ∙ ap (some_below short short_outer (chip_reader turn.args.limit) turn.args.work.now (λ i c. (chip_column turn.args.limit i c).any_pushed_out)) (sym (add-one turn.loop-level.level)),
       longs.0,
       longs.1,

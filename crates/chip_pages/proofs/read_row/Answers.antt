@@ -89,7 +89,7 @@ loop-j-preserved c =
     let entry = c.enter-e.ensures in
     let few : c.enter-e.result.count ≤ 2000 = omega (arith, entry.2 ∙ ap count (searched_is c), count_few turn) in
     let long : turn.loop-j.j < length a.args.work.now = omega (arith, a.pre.2.many, j63) in (
-      one_more_read _ _ _ _ _ _ _ _ _ _ _ _ _ _ turn.loop-j.inv.0 j63 (searched_is c) entry.0 entry.1 entry.2 (to_z-of_z (record { sfits = search rules }) ∙ entry.3) few,
+      one_more_read _ _ _ _ _ _ _ _ _ _ _ _ _ _ turn.loop-j.inv.0 j63 (searched_is c) entry.0 entry.1 entry.2 (to_z-of_z {w = w16} (record { sfits = search rules }) ∙ entry.3) few,
       c.either-pushed.ensures ∙ ap₂ ◌||◌ turn.loop-j.inv.1 (pushes_it a.args.limit a.args.level a.requires.0 _ _ (outcome_is c)) ∙ sym (one_more (λ c. (chip_column a.args.limit a.args.level c).any_pushed_out) a.args.work.now turn.loop-j.j long),
       c.search_column-ended.ensures.places_2,
     )

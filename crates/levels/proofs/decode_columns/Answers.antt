@@ -1,16 +1,11 @@
 use native.Mathlib.Omega.{arith}
 use mir.Syntax.{w16}
-use mir.Val.{to_z}
 use mir.Facts.{to_z-of_z}
-use Prim.Native.Nat.{◌-◌}
-use Rattle.stack.specs.Places.{Room}
 use Rattle.search.specs.Outcomes.{search_of}
 use Rattle.list_of_two.specs.Ways.{choice_of}
-use Rattle.readings.specs.Steps.{way_reader}
 use Rattle.concatenated.proofs.Readings.{short_readers_read_words}
 use Rattle.concatenated.proofs.Lows.{short_page_low_from}
-use Rattle.levels.proofs.LevelRuns.{Decoding, decoding_none, decoding_more, decoding_refused, decoding_answered}
-use borrow.Author.Tests.{not-true, not-false}
+use Rattle.levels.proofs.LevelRuns.{decoding_none, decoding_more, decoding_refused, decoding_answered}
 use borrow.Author.Rules.{rules}
 use Rattle.levels.proofs.decode_columns.Goals as goal
 
@@ -28,7 +23,7 @@ returns-then-not-settled c =
 pub loop-level-preserved : goal.loop-level-preserved
 loop-level-preserved c =
     let done = c.decode_level-out.ensures in
-    (decoding_more _ _ _ _ _ _ _ _ _ c.loop-level.invariant.0 c.loop-level-test.true _ _ done.0 c.if-not-settled.false done.1 done.2 _ (omega arith) _ (to_z-of_z (record { sfits = search rules })), done.3)
+    (decoding_more _ _ _ _ _ _ _ _ _ c.loop-level.invariant.0 c.loop-level-test.true _ _ done.0 c.if-not-settled.false done.1 done.2 _ (omega arith) _ (to_z-of_z {w = w16} (record { sfits = search rules })), done.3)
 
 pub returns : goal.returns
 returns c =

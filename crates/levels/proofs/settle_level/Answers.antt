@@ -1,5 +1,6 @@
 -- `levels::settle_level` meets its contract: by what outer decoding gave. Assumes nothing.
-use mathlib.Core.Path.{refl, sym}
+use mir.Syntax.{w16}
+use mathlib.Core.Path.{refl}
 use mir.Facts.{to_z-of_z}
 use Rattle.levels.proofs.LevelSteps.{as_many, soft_off, settled_row_is_a_word, level_refused, level_settled}
 use borrow.Author.Rules.{rules}
@@ -36,13 +37,13 @@ returns-then-settled c =
     let t = c.roots.ensures.0 in
     let given = c.requires.rs_len in
     let word = settled_row_is_a_word level c.requires.level_bound.0 given.0 given.2 _ _ _ _ _ given.3 _ t _ _ _ c.decode-settled.ensures taken in record {
-        ended = λ rs z long read. level_settled level c.requires.level_bound.0 rs long _ _ _ _ _ read _ t _ _ _ c.decode-settled.ensures taken z refl _ _ _ refl refl c.changed_mark-changed.ensures c.mark_of-erased.ensures refl (to_z-of_z (record { sfits = search rules })) c.take_off.ensures;
-        count_value = (refl, soft_off level _ _ _ word.0 c.requires.level_bound.1 c.take_off.ensures);
-      }
+      ended = λ rs z long read. level_settled level c.requires.level_bound.0 rs long _ _ _ _ _ read _ t _ _ _ c.decode-settled.ensures taken z refl _ _ _ refl refl c.changed_mark-changed.ensures c.mark_of-erased.ensures refl (to_z-of_z {w = w16} (record { sfits = search rules })) c.take_off.ensures;
+      count_value = (refl, soft_off level _ _ _ word.0 c.requires.level_bound.1 c.take_off.ensures);
+    }
 
 pub returns : goal.returns
 returns c =
     record {
-        ended = λ rs z long read. level_refused c.args.level c.requires.level_bound.0 rs long _ _ _ _ _ read _ c.roots.ensures.0 _ _ _ c.decode-settled.ensures c.if-settled.false z _ _ _ refl;
-        count_value = (refl, c.requires.level_bound.1);
-      }
+      ended = λ rs z long read. level_refused c.args.level c.requires.level_bound.0 rs long _ _ _ _ _ read _ c.roots.ensures.0 _ _ _ c.decode-settled.ensures c.if-settled.false z _ _ _ refl;
+      count_value = (refl, c.requires.level_bound.1);
+    }

@@ -1,4 +1,5 @@
 -- `page::told` meets its contract: by the two cases of what the levels gave. Assumes nothing.
+use mir.Syntax.{w16}
 use mathlib.Core.Path.{sym, ap, ◌∙◌}
 use mir.Facts.{to_z-of_z}
 use Rattle.page.specs.Outcomes.{outcome_of, symbol_buffer, filled}
@@ -16,7 +17,7 @@ pub returns-in-Answered : goal.returns-in-Answered
 returns-in-Answered c read page done =
     let told = c.outcome-1.given in
     let answer = is_answered read page _ _ _ _ done told.0.0 told.0.1.0 told.1 in (
-      answered_outcome _ _ _ _ _ _ answer _ _ _ c.totals.ensures c.totals-in-Answered.ensures (to_z-of_z (record { sfits = search rules })),
+      answered_outcome _ _ _ _ _ _ answer _ _ _ c.totals.ensures c.totals-in-Answered.ensures (to_z-of_z {w = w16} (record { sfits = search rules })),
       answered_symbols _ _ _ _ _ _ answer c.args.symbols.now _ c.row_after_row.ensures,
     )
 

@@ -21,4 +21,4 @@ returns-in-Found c =
 
 pub returns-in-Refused : goal.returns-in-Refused
 returns-in-Refused c =
-    refused_noted c.args.job c.args.answer _ _ _ c.answer-in-Refused-1.given.1 (to_z-of_z (record { sfits = search rules }))
+    refused_noted c.args.job c.args.answer _ _ _ c.answer-in-Refused-1.given.1 (to_z-of_z {w = w16} (record { sfits = search rules }))
