@@ -1,12 +1,9 @@
-use Prim.Native.Nat.{◌+◌, ◌-◌, ◌*◌}
-use Rattle.concatenated.proofs.Filling.{Front, front_none, front_all}
-use Rattle.concatenated.specs.Format.{short_page}
+use Prim.Native.Nat.{◌+◌, ◌*◌}
+use Rattle.concatenated.proofs.Filling.{front_none, front_all}
 use lib.ListN.{length-set}
-use Rattle.concatenated.specs.Data.{data_bytes}
 use Rattle.concatenated.proofs.Digits.{repacked_length}
 use Rattle.concatenated.proofs.DataGroups.{bytes_more}
 use native.Mathlib.Omega.{arith}
-use borrow.Author.Rules.{rules}
 use Rattle.coding.proofs.data.bytes_of.Goals as goal
 
 pub loop-g-init : goal.loop-g-init

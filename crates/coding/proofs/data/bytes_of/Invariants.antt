@@ -1,13 +1,8 @@
 -- `coding::data::bytes_of` meets its contract: the bytes of the first g groups are written. Assumes nothing.
-use Prim.Native.Nat.{◌+◌, ◌-◌, ◌*◌}
-use Rattle.concatenated.proofs.Filling.{Front, front_none, front_all}
+use Prim.Native.Nat.{◌-◌, ◌*◌}
+use Rattle.concatenated.proofs.Filling.{Front}
 use Rattle.concatenated.specs.Format.{short_page}
-use lib.ListN.{length-set}
 use Rattle.concatenated.specs.Data.{data_bytes}
-use Rattle.concatenated.proofs.Digits.{repacked_length}
-use Rattle.concatenated.proofs.DataGroups.{bytes_more}
-use native.Mathlib.Omega.{arith}
-use borrow.Author.Rules.{rules}
 use Rattle.coding.proofs.data.bytes_of.Given as goal
 
 abbrev pub invariant-loop-g : goal.invariant-loop-g

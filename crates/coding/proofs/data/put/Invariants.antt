@@ -1,12 +1,8 @@
 -- `coding::data::put` meets its contract: the first k symbols are copied. Assumes nothing.
-use mathlib.Core.Path.{◌≡◌, refl, sym, ap, ◌∙◌}
-use Prim.Native.Nat.{ℕ, ◌+◌, ◌-◌, ◌<◌, ◌≤◌}
-use mathlib.Core.List.{List}
-use native.Mathlib.Numerals.{add-one}
-use lib.ListN.{length, length-set, get_or, set}
-use lib.Seq.{paste, paste-zero, paste-suc}
-use native.Mathlib.Omega.{arith}
-use borrow.Author.Rules.{rules}
+use mathlib.Core.Path.{◌≡◌}
+use Prim.Native.Nat.{◌-◌, ◌≤◌}
+use lib.ListN.{length}
+use lib.Seq.{paste}
 use Rattle.coding.proofs.data.put.Given as goal
 
 abbrev pub invariant-loop-k : goal.invariant-loop-k

@@ -1,8 +1,6 @@
 use mathlib.Core.Path.{◌∙◌, sym}
-use Prim.Native.Nat.{◌-◌}
-use Rattle.concatenated.proofs.DataGroups.{RowsBehind, no_row_behind, one_more_row_behind, all_rows_behind}
+use Rattle.concatenated.proofs.DataGroups.{no_row_behind, one_more_row_behind, all_rows_behind}
 use native.Mathlib.Omega.{arith}
-use borrow.Author.Rules.{rules}
 use Rattle.coding.proofs.data.row_after_row.Goals as goal
 
 pub loop-level-init : goal.loop-level-init

@@ -3,11 +3,9 @@ use Prim.Native.Nat.{ℕ, ◌-◌}
 use lib.Seq.{take_all}
 use Rattle.concatenated.specs.Format.{short_page, data_before}
 use Rattle.concatenated.specs.Written.{rows_data}
-use Rattle.concatenated.specs.Symbols.{rows_in}
 use Rattle.concatenated.proofs.Short.{short_page_numbers}
-use Rattle.concatenated.proofs.DataGroups.{RowsPut, no_row_put, one_more_row_put, row_cut_out, cut_out_row_is_a_word, row_data_within_200}
+use Rattle.concatenated.proofs.DataGroups.{no_row_put, one_more_row_put, row_cut_out, cut_out_row_is_a_word, row_data_within_200}
 use native.Mathlib.Omega.{arith}
-use borrow.Author.Rules.{rules}
 use Rattle.coding.proofs.data.rows_data.Goals as goal
 
 pub loop-level-init : goal.loop-level-init

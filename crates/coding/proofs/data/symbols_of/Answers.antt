@@ -1,11 +1,7 @@
-use Prim.Native.Nat.{◌-◌, ◌*◌}
-use Rattle.concatenated.proofs.Filling.{Front, front_none, front_all}
-use Rattle.concatenated.specs.Format.{short_page}
-use Rattle.concatenated.specs.Data.{data_symbols}
+use Rattle.concatenated.proofs.Filling.{front_none, front_all}
 use Rattle.concatenated.proofs.Digits.{repacked_length}
 use Rattle.concatenated.proofs.DataGroups.{symbols_more}
 use native.Mathlib.Omega.{arith}
-use borrow.Author.Rules.{rules}
 use Rattle.coding.proofs.data.symbols_of.Goals as goal
 
 pub loop-g-init : goal.loop-g-init

@@ -1,13 +1,11 @@
-use mathlib.Core.Path.{subst, subst⁻¹}
-use Prim.Native.Nat.{ℕ, ◌-◌, ◌*◌, ◌<◌}
-use Rattle.concatenated.proofs.Filling.{Front, front_none, front_all}
+use mathlib.Core.Path.{subst⁻¹}
+use Prim.Native.Nat.{ℕ, ◌<◌}
+use Rattle.concatenated.proofs.Filling.{front_none, front_all}
 use Rattle.concatenated.specs.Format.{short_page}
 use lib.ListN.{length-set}
-use Rattle.concatenated.specs.Written.{page_in_bytes}
 use Rattle.concatenated.proofs.Encoding.{page_in_bytes_length}
 use Rattle.concatenated.proofs.PageBytes.{column_more, column_in_range}
 use native.Mathlib.Omega.{arith}
-use borrow.Author.Rules.{rules}
 use Rattle.coding.proofs.writing.write_columns.Goals as goal
 
 pub loop-j-init : goal.loop-j-init

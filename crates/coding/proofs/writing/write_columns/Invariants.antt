@@ -1,14 +1,8 @@
 -- `coding::writing::write_columns` meets its contract: the bytes of the first j columns are written. Assumes nothing.
-use mathlib.Core.Path.{subst, subst⁻¹}
-use Prim.Native.Nat.{ℕ, ◌-◌, ◌*◌, ◌<◌}
-use Rattle.concatenated.proofs.Filling.{Front, front_none, front_all}
+use Prim.Native.Nat.{◌-◌, ◌*◌}
+use Rattle.concatenated.proofs.Filling.{Front}
 use Rattle.concatenated.specs.Format.{short_page}
-use lib.ListN.{length-set}
 use Rattle.concatenated.specs.Written.{page_in_bytes}
-use Rattle.concatenated.proofs.Encoding.{page_in_bytes_length}
-use Rattle.concatenated.proofs.PageBytes.{column_more, column_in_range}
-use native.Mathlib.Omega.{arith}
-use borrow.Author.Rules.{rules}
 use Rattle.coding.proofs.writing.write_columns.Given as goal
 
 abbrev pub invariant-loop-j : goal.invariant-loop-j
