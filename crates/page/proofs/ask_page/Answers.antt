@@ -8,7 +8,6 @@ use Rattle.readings.specs.Steps.{way_reader}
 use Rattle.concatenated.specs.OuterCode.{short_outer}
 use Rattle.page.specs.Outcomes.{outcome_of, symbol_buffer, filled}
 use Rattle.page.proofs.PageOutcomes.{soft_columns_lem}
-use borrow.Author.Rules.{rules}
 use Rattle.page.proofs.ask_page.Goals as goal
 
 pub decode_columns-outcome-requires : goal.decode_columns-outcome-requires
@@ -20,6 +19,6 @@ returns c =
     let read = way_reader c.args.way in
     let loaded = c.load.ensures in
     let given = c.told.ensures read _ c.decode_columns-outcome.ensures in record {
-        value = given.0 ∙ ap (λ (p : List (List ℕ)). outcome_of (decoded short short_outer read p)) loaded;
-        symbols_after = given.1 ∙ ap (λ (p : List (List ℕ)). filled symbol_buffer c.args.symbols.now (decoded short short_outer read p)) loaded;
-      }
+      value = given.0 ∙ ap (λ (p : List (List ℕ)). outcome_of (decoded short short_outer read p)) loaded;
+      symbols_after = given.1 ∙ ap (λ (p : List (List ℕ)). filled symbol_buffer c.args.symbols.now (decoded short short_outer read p)) loaded;
+    }

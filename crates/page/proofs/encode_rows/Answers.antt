@@ -1,16 +1,12 @@
-use mathlib.Core.Path.{◌≡◌, refl, ap, ◌∙◌}
-use Prim.Native.Nat.{◌-◌}
-use Rattle.concatenated.proofs.Filling.{Front, front_none, front_more, front_all}
+use mathlib.Core.Path.{refl, ap, ◌∙◌}
+use Rattle.concatenated.proofs.Filling.{front_none, front_more, front_all}
 use mathlib.Core.List.{[]}
 use lib.ListN.{length}
 use Rattle.concatenated.proofs.Digits.{repacked_length}
-use Rattle.concatenated.specs.Format.{short_page, data_before}
-use Rattle.concatenated.specs.Written.{written_rows}
-use Rattle.concatenated.specs.OuterCode.{short_encoder}
+use Rattle.concatenated.specs.Format.{data_before}
 use Rattle.concatenated.proofs.DataGroups.{row_data_within_200}
 use Rattle.page.proofs.RowEncoding.{four_rows, part_and_roots, part_is_of_symbols, row_written, next_place}
 use native.Mathlib.Omega.{arith}
-use borrow.Author.Rules.{rules}
 use Rattle.page.proofs.encode_rows.Goals as goal
 
 pub loop-level-init : goal.loop-level-init

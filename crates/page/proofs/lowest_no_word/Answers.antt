@@ -1,19 +1,17 @@
 use mathlib.Core.Bool.{Bool}
 use mathlib.Core.List.{List, []}
 use mathlib.Core.Path.{◌≡◌, refl, sym, ap₂, ◌∙◌}
-use Prim.Native.Nat.{ℕ, ◌+◌, ◌-◌, ◌*◌, ◌≤◌, ◌<◌}
+use Prim.Native.Nat.{ℕ, ◌+◌, ◌-◌, ◌*◌, ◌<◌}
 use lib.ListN.{get_or, take, drop}
-use borrow.Author.Tests.{not-true, not-false}
 use Rattle.reedsolomon.specs.Row.{is_codeword}
 use Rattle.reedsolomon.specs.ShortRows.{short_roots}
 use Rattle.reedsolomon.proofs.Answers.{word_is_of_symbols}
 use Rattle.concatenated.specs.Format.{short_page}
-use Rattle.concatenated.specs.Symbols.{rows_in, lowest_no_word}
+use Rattle.concatenated.specs.Symbols.{rows_in}
 use Rattle.concatenated.specs.OuterCode.{is_short_codeword}
 use Rattle.concatenated.proofs.DataGroups.{row_cut_out, cut_out_row_is_a_word}
 use Rattle.concatenated.proofs.Symbols.{as_many_rows_in, lowest_lies_above, lowest_is_here, lowest_is_none}
 use native.Mathlib.Omega.{arith}
-use borrow.Author.Rules.{rules}
 use Rattle.page.proofs.lowest_no_word.Goals as goal
 
 -- the row of a level, as it is cut out; what is tested of it is whether it is a word
@@ -38,14 +36,14 @@ pub returns-then-not-is_codeword : goal.returns-then-not-is_codeword
 returns-then-not-is_codeword c =
     let h = c.loop-level-test.true in
     let symbols = c.args.symbols.now in
-    let none = sym (tested symbols c.loop-level.level _ _ h c.roots.ensures.0 c.is_a_codeword.ensures) ∙ c.if-not-is_codeword.true in
+    let none = sym (tested symbols c.loop-level.level _ _ h c.roots.ensures.0 c.is_codeword.ensures) ∙ c.if-not-is_codeword.true in
     sym (c.loop-level.invariant.1 ∙ lowest_is_here is_short_codeword (rows_in short_page symbols) c.loop-level.level (omega (arith, as_many_rows_in short_page symbols, h)) none)
 
 pub loop-level-preserved : goal.loop-level-preserved
 loop-level-preserved c =
     let h = c.loop-level-test.true in
     let symbols = c.args.symbols.now in
-    let word = sym (tested symbols c.loop-level.level _ _ h c.roots.ensures.0 c.is_a_codeword.ensures) ∙ c.if-not-is_codeword.false in
+    let word = sym (tested symbols c.loop-level.level _ _ h c.roots.ensures.0 c.is_codeword.ensures) ∙ c.if-not-is_codeword.false in
     (omega arith, c.loop-level.invariant.1 ∙ lowest_lies_above is_short_codeword (rows_in short_page symbols) c.loop-level.level (omega (arith, as_many_rows_in short_page symbols, h)) word)
 
 pub returns : goal.returns

@@ -4,7 +4,6 @@ use Rattle.concatenated.specs.Format.{short_page}
 use Rattle.concatenated.specs.Data.{data_bytes}
 use Rattle.concatenated.specs.Written.{bytes_of_rows}
 use Rattle.page.proofs.PageOutcomes.{fronts_are_a_word}
-use borrow.Author.Rules.{rules}
 use Rattle.page.proofs.pack.Goals as goal
 
 pub bytes_of-requires : goal.bytes_of-requires

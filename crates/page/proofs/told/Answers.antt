@@ -9,22 +9,19 @@ use Rattle.page.proofs.told.Goals as goal
 
 pub row_after_row-requires : goal.row_after_row-requires
 row_after_row-requires c =
-    let told = c.outcome-1.given in
     let given = c.requires.by_index in
-    ((is_answered given.0 given.1 _ _ _ _ given.2 told.0.0 told.0.1.0 told.1).good, c.requires.symbols_len)
+    ((is_answered given.0 given.1 _ _ _ _ given.2 c.in-Answered.steps c.in-Answered.low c.in-Answered.is).good, c.requires.symbols_len)
 
 pub returns-in-Answered : goal.returns-in-Answered
 returns-in-Answered c read page done =
-    let told = c.outcome-1.given in
-    let answer = is_answered read page _ _ _ _ done told.0.0 told.0.1.0 told.1 in (
+    let answer = is_answered read page _ _ _ _ done c.in-Answered.steps c.in-Answered.low c.in-Answered.is in (
       answered_outcome _ _ _ _ _ _ answer _ _ _ c.totals.ensures c.totals-in-Answered.ensures (to_z-of_z {w = w16} (record { sfits = search rules })),
       answered_symbols _ _ _ _ _ _ answer c.args.symbols.now _ c.row_after_row.ensures,
     )
 
 pub returns-in-Refused : goal.returns-in-Refused
 returns-in-Refused c read page done =
-    let told = c.outcome-in-Refused-1.given in
-    let refusal = sym (is_refused read page _ _ _ _ done told.0.0 told.1) in (
-      c.refused.ensures ∙ refusal_is_10 told.0.0 ∙ ap outcome_of refusal,
-      refusal_keeps_the_symbols c.args.symbols.now told.0.0 ∙ ap (filled symbol_buffer c.args.symbols.now) refusal,
+    let refusal = sym (is_refused read page _ _ _ _ done c.in-Refused.level c.in-Refused.is) in (
+      c.refused.ensures ∙ refusal_is_10 c.in-Refused.level ∙ ap outcome_of refusal,
+      refusal_keeps_the_symbols c.args.symbols.now c.in-Refused.level ∙ ap (filled symbol_buffer c.args.symbols.now) refusal,
     )
