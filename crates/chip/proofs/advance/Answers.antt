@@ -115,7 +115,7 @@ returns-then-conflicting c =
     let p2 = cf in
     let p1 = p2 in
     let un = p1 in
-    let a = un.before in record {
+    let a = un in record {
         places_2 = a.requires.places;
         stepped = stepped_dead a.args.n a.args.col.now a.args.left.now a.args.right.now a.args.values.now a.requires.given a.requires.leading a.args.s a.args.l a.args.b a.requires.paths_bound.1 a.requires.good _ a.args.paths a.requires.paths_bound.0 a.requires.every a.requires.ordered
           p1.parity_under-u.result p2.parity_under-v.result p1.parity_under-u.ensures.0 p2.parity_under-v.ensures.0 p1.parity_under-u.ensures.1 p2.parity_under-v.ensures.1
@@ -124,13 +124,13 @@ returns-then-conflicting c =
 
 pub value_of-requires-2 : goal.value_of-requires-2
 value_of-requires-2 c =
-    let a = start ((goal.at.value_of-requires-2 c).After-one_more-more) in
+    let a = ((goal.at.value_of-requires-2 c).After-one_more-more) in
     (a.requires.given.soft a.args.l a.requires.paths_bound.1, asked_below (goal.at.value_of-requires-2 c).After-asked_bit-bit, a.requires.given.entries)
 
 pub overflow_add-sb-2 : goal.overflow_add-sb-2
 overflow_add-sb-2 c =
     let ab = (goal.at.overflow_add-sb-2 c).After-asked_bit-bit in
-    sum_fits _ _ (start ((goal.at.overflow_add-sb-2 c).After-one_more-more)).ranges.s (record { sfits = c.value_of-2.type_inv }) (added ((goal.at.overflow_add-sb-2 c).After-one_more-more) _ ab.asked_bit-bit.result (asked_below ab) c.value_of-2.ensures)
+    sum_fits _ _ (((goal.at.overflow_add-sb-2 c).After-one_more-more)).ranges.s (record { sfits = c.value_of-2.type_inv }) (added ((goal.at.overflow_add-sb-2 c).After-one_more-more) _ ab.asked_bit-bit.result (asked_below ab) c.value_of-2.ensures)
 
 pub overflow_add-cb-2 : goal.overflow_add-cb-2
 overflow_add-cb-2 c =

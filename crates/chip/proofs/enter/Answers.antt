@@ -22,7 +22,7 @@ pub loop-i-preserved : goal.loop-i-preserved
 loop-i-preserved c =
     let p = c in
     let f = to_z-of_z {w = w16} (record { sfits = search rules }) in
-    (p.loop-i.invariant.0, room_set _ _ _ _ _ _ _ p.loop-i.invariant.1, moved_step _ _ _ _ _ _ _ p.loop-i.invariant.1 p.loop-i.invariant.0 p.loop-i.invariant.2 _ c.loop-i-test.true f (sym c.stands_before.ensures ∙ not-false c.stands_before.result c.if-not-stands_before.false))
+    (p.loop-i.invariant.0, room_set _ _ _ _ _ _ _ p.loop-i.invariant.1, moved_step _ _ _ _ _ _ _ p.loop-i.invariant.1 p.loop-i.invariant.0 p.loop-i.invariant.2 _ c.loop-i-test.true f (sym c.stands_before.ensures ∙ c.if-not-stands_before.false))
 
 pub returns : goal.returns
 returns c =
