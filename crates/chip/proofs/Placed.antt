@@ -44,6 +44,7 @@ in_listed f (suc n) j h = go (ℕ_discrete j n) (in_listed f n j)
 
 pub of_listed : (f : ℕ → Key) (n : ℕ) (z : Key) → Mem z (listed f n) → (j : ℕ) × (j < n) × (z ≡ f j)
 unfolding listed
+of_listed f zero z x' = elim x' [ ]
 of_listed f (suc n) z (inl e) = (n, omega arith, e)
 of_listed f (suc n) z (inr m) = let r = of_listed f n z m in (r.0, omega (arith, r.1), r.2)
 

@@ -4,7 +4,7 @@ use native.Mathlib.Nat.{div-le_self}
 use native.Mathlib.Omega.{arith}
 use mathlib.Core.List.{List}
 use mathlib.Core.Logic.{◌⊎◌, inl, inr}
-use mathlib.Core.Path.{◌≡◌, ap, ◌∙◌, subst⁻¹, subst}
+use mathlib.Core.Path.{◌≡◌, ap, ◌∙◌, subst⁻¹}
 use lib.IntN.{ℤ}
 use lib.ListN.{length, get_or, set}
 use lib.Pow.{pow_mono}

@@ -84,10 +84,10 @@ settle-requires c =
     let ex = c in
     let e = ex in
     let a = e in record {
-        paths_bound = a.requires.paths_bound.0;
-        places = ex.exchange-p.ensures.places_2;
-        ordered = (subst (Ordered Upto) ex.exchange-p.ensures.paths_value (ordered_placed _ _ a.requires.ordered)).1;
-      }
+      paths_bound = a.requires.paths_bound.0;
+      places = ex.exchange-p.ensures.places_2;
+      ordered = (subst (Ordered Upto) ex.exchange-p.ensures.paths_value (ordered_placed _ _ a.requires.ordered)).1;
+    }
 
 pub returns-then-unchecked : goal.returns-then-unchecked
 returns-then-unchecked c =
@@ -102,11 +102,11 @@ returns-then-unchecked c =
     let t = rd.read_bit-bit.result in
     let kt = extended e v1.value_of.result t rd.read_bit-bit.ensures.0 v1.value_of.ensures (record { sfits = v1.value_of.type_inv }) in
     let ku = extended e v2.other_value.result (1 - t) (omega arith) v2.other_value.ensures (record { sfits = v2.other_value.type_inv }) in record {
-        places_2 = st.settle.ensures.places_2;
-        stepped = stepped_at _ _ _ _ _ _ _ _ _ _ _ (record { sfits = search rules })
+      places_2 = st.settle.ensures.places_2;
+      stepped = stepped_at _ _ _ _ _ _ _ _ _ _ _ (record { sfits = search rules })
           (stepped_both a.args.n a.args.col.now a.args.left.now a.args.right.now a.args.values.now a.requires.given a.requires.leading a.args.s a.args.l a.args.b a.requires.paths_bound.1 a.requires.good _ a.args.paths a.requires.paths_bound.0 a.requires.every a.requires.ordered
           _ _ _ _ t (1 - t) _ _ _ _ (sym un.unchecked.ensures ∙ rd.if-unchecked.true) refl rd.read_bit-bit.ensures.1 rd.read_bit-bit.ensures.0 refl kt ku e.one_more-more.ensures refl ex.exchange-p.ensures.paths_value st.settle.ensures.paths_after);
-      }
+    }
 
 pub returns-then-conflicting : goal.returns-then-conflicting
 returns-then-conflicting c =
@@ -115,22 +115,22 @@ returns-then-conflicting c =
     let p2 = cf in
     let p1 = p2 in
     let un = p1 in
-    let a = un.before in record {
-        places_2 = a.requires.places;
-        stepped = stepped_dead a.args.n a.args.col.now a.args.left.now a.args.right.now a.args.values.now a.requires.given a.requires.leading a.args.s a.args.l a.args.b a.requires.paths_bound.1 a.requires.good _ a.args.paths a.requires.paths_bound.0 a.requires.every a.requires.ordered
+    let a = un in record {
+      places_2 = a.requires.places;
+      stepped = stepped_dead a.args.n a.args.col.now a.args.left.now a.args.right.now a.args.values.now a.requires.given a.requires.leading a.args.s a.args.l a.args.b a.requires.paths_bound.1 a.requires.good _ a.args.paths a.requires.paths_bound.0 a.requires.every a.requires.ordered
           p1.parity_under-u.result p2.parity_under-v.result p1.parity_under-u.ensures.0 p2.parity_under-v.ensures.0 p1.parity_under-u.ensures.1 p2.parity_under-v.ensures.1
           _ _ _ (sym cf.conflicting.ensures ∙ i.if-conflicting.true) c.take_next.ensures;
-      }
+    }
 
 pub value_of-requires-2 : goal.value_of-requires-2
 value_of-requires-2 c =
-    let a = start ((goal.at.value_of-requires-2 c).After-one_more-more) in
+    let a = ((goal.at.value_of-requires-2 c).After-one_more-more) in
     (a.requires.given.soft a.args.l a.requires.paths_bound.1, asked_below (goal.at.value_of-requires-2 c).After-asked_bit-bit, a.requires.given.entries)
 
 pub overflow_add-sb-2 : goal.overflow_add-sb-2
 overflow_add-sb-2 c =
     let ab = (goal.at.overflow_add-sb-2 c).After-asked_bit-bit in
-    sum_fits _ _ (start ((goal.at.overflow_add-sb-2 c).After-one_more-more)).ranges.s (record { sfits = c.value_of-2.type_inv }) (added ((goal.at.overflow_add-sb-2 c).After-one_more-more) _ ab.asked_bit-bit.result (asked_below ab) c.value_of-2.ensures)
+    sum_fits _ _ (((goal.at.overflow_add-sb-2 c).After-one_more-more)).ranges.s (record { sfits = c.value_of-2.type_inv }) (added ((goal.at.overflow_add-sb-2 c).After-one_more-more) _ ab.asked_bit-bit.result (asked_below ab) c.value_of-2.ensures)
 
 pub overflow_add-cb-2 : goal.overflow_add-cb-2
 overflow_add-cb-2 c =
@@ -150,9 +150,9 @@ returns c =
     let a = e in
     let t = ab.asked_bit-bit.result in
     let kt = extended e v3.value_of-2.result t (asked_below ab) v3.value_of-2.ensures (record { sfits = v3.value_of-2.type_inv }) in record {
-        places_2 = ex.exchange-p-2.ensures.places_2;
-        stepped = stepped_at _ _ _ _ _ _ _ _ _ _ _ (record { sfits = search rules })
+      places_2 = ex.exchange-p-2.ensures.places_2;
+      stepped = stepped_at _ _ _ _ _ _ _ _ _ _ _ (record { sfits = search rules })
           (stepped_one a.args.n a.args.col.now a.args.left.now a.args.right.now a.args.values.now a.requires.given a.requires.leading a.args.s a.args.l a.args.b a.requires.paths_bound.1 a.requires.good _ a.args.paths a.requires.paths_bound.0 a.requires.every a.requires.ordered
           p1.parity_under-u.result p2.parity_under-v.result p1.parity_under-u.ensures.0 p2.parity_under-v.ensures.0 p1.parity_under-u.ensures.1 p2.parity_under-v.ensures.1
           _ t _ _ (sym un.unchecked.ensures ∙ p1.if-unchecked.false) (sym cf.conflicting.ensures ∙ ab.if-conflicting.false) ab.asked_bit-bit.ensures kt ex.exchange-p-2.ensures.paths_value);
-      }
+    }

@@ -1,19 +1,9 @@
 -- `chip::enter` meets its contract. The loop's invariant: place i is free, and those above it stand before the path that comes and have moved up. Assumes nothing.
-use mathlib.Core.Logic.{inl, inr, ⊎_elim}
-use mathlib.Core.Path.{sym, ap, ◌∙◌}
 use Prim.Native.Nat.{◌<◌}
-use lib.IntN.{ℤ}
-use mir.Syntax.{w16}
-use mir.Val.{to_z}
-use mir.Facts.{to_z-of_z}
 use Rattle.trellis.specs.Keys.{key}
 use Rattle.stack.specs.Places.{at}
-use Rattle.chip.specs.Places.{Places, listed, placed}
-use Rattle.stack.proofs.KeyWays.{room_set}
-use Rattle.chip.proofs.Insertion.{Moved, moved_start, moved_step, moved_end}
-use native.Mathlib.Omega.{arith}
-use borrow.Author.Tests.{not-true, not-false}
-use borrow.Author.Rules.{rules}
+use Rattle.chip.specs.Places.{Places}
+use Rattle.chip.proofs.Insertion.{Moved}
 use Rattle.chip.proofs.enter.Given as goal
 
 abbrev pub invariant-loop-i : goal.invariant-loop-i

@@ -1,6 +1,5 @@
 -- `chip::one_more` meets its contract. Assumes nothing.
 use borrow.Author.Tests.{eq-eqb, ne_eqb}
-use borrow.Author.Rules.{rules}
 use Rattle.chip.proofs.one_more.Goals as goal
 
 pub returns-then-paths-eq63 : goal.returns-then-paths-eq63

@@ -1,20 +1,10 @@
 -- `chip::search` meets its contract. The loop's invariant: the places hold the stack of the specification but for the last path taken, and the run goes on from there as it does from the start. Assumes nothing.
-use Prim.Native.Nat.{◌-◌, ◌+◌}
-use mathlib.Core.Bool.{Bool}
-use mathlib.Core.Path.{sym, ap, ap₂, ◌∙◌}
-use lib.IntN.{ℤ}
-use mir.Syntax.{w16}
-use mir.Val.{to_z, of_z}
-use mir.Facts.{to_z-of_z}
+use Prim.Native.Nat.{◌-◌}
 use Rattle.trellis.specs.Keys.{key}
 use Rattle.stack.specs.Places.{at}
 use Rattle.extension.specs.Steps.{table_nodes}
-use Rattle.chip.specs.Places.{Places, Stepped}
-use Rattle.search.specs.declared.SearchOutcome.TheVariants.{Found, Spent}
-use Rattle.chip.proofs.Growth.{stepped_at, crowded_is}
-use Rattle.chip.proofs.Loop.{ended_with, Going, going_start, going_at, going_next, found_is, emptied_is, spent_is, contract}
-use native.Mathlib.Omega.{arith}
-use borrow.Author.Rules.{rules}
+use Rattle.chip.specs.Places.{Places}
+use Rattle.chip.proofs.Loop.{Going}
 use Rattle.chip.proofs.search.Given as goal
 
 abbrev pub invariant-loop-count : goal.invariant-loop-count

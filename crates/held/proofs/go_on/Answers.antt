@@ -35,11 +35,11 @@ run-end-requires c =
     let wide = c.widened-bits in
     let a = (goal.at.run-end-requires c).Start in
     let ready = a.requires.ready in record {
-        limit_bound = a.requires.limit_lt_limit.1;
-        given = given_short _ _ _ _ (column_searchable supercode a.args.held.level ready.level _ _ _ _ ready.full ready.range tables.tables_of-tables.ensures);
-        room = subst⁻¹ (Room a.args.held.sums a.args.held.lens) wide.ensures (room_of a);
-        standing = subst⁻¹ (λ (bits : List ℕ). Standing 30 (at a.args.held.sums a.args.held.lens bits) a.args.held.paths a.args.held.limit (key (to_z w16 (of_z w16 a.args.held.sum)) a.args.held.len a.args.held.last)) wide.ensures (standing_at _ _ _ _ _ _ _ (sum_fits a) ready.standing);
-      }
+      limit_bound = a.requires.limit_lt_limit.1;
+      given = given_short _ _ _ _ (column_searchable supercode a.args.held.level ready.level _ _ _ _ ready.full ready.range tables.tables_of-tables.ensures);
+      room = subst⁻¹ (Room a.args.held.sums a.args.held.lens) wide.ensures (room_of a);
+      standing = subst⁻¹ (λ (bits : List ℕ). Standing 30 (at a.args.held.sums a.args.held.lens bits) a.args.held.paths a.args.held.limit (key (to_z w16 (of_z w16 a.args.held.sum)) a.args.held.len a.args.held.last)) wide.ensures (standing_at _ _ _ _ _ _ _ (sum_fits a) ready.standing);
+    }
 
 pub returns : goal.returns
 returns c =
@@ -50,16 +50,16 @@ returns c =
     let h = a.args.held in
     let of = tables.tables_of-tables.ensures in
     let table = level_table supercode h.level _ _ _ of in
-    let sum_after : SFits w16 run.result.sum = record { sfits = run.type_inv.1.1.1.1.0.1 } in
-    let low_after : SFits w16 run.result.low = record { sfits = run.type_inv.1.1.1.1.1.1.1.0.1 } in
-    let stands = run.ensures.1.0 in
-    let same = narrowed_same run.new.0 run.new.1.0 run.new.1.1.0 c.narrowed-kept_bits.result _ _ _ stands c.narrowed-kept_bits.ensures in
+    let sum_after : SFits w16 run.result.sum = record { sfits = search rules } in
+    let low_after : SFits w16 run.result.low = record { sfits = search rules } in
+    let stands = run.ensures.standing_2 in
+    let same = narrowed_same run.new.sums run.new.lens run.new.bits c.narrowed-kept_bits.result _ _ _ stands c.narrowed-kept_bits.ensures in
     let standing = standing_same _ _ _ same _ _ (standing_at _ _ _ _ _ _ _ sum_after stands) in
-    let reached : (s : Stopped h) → _ = λ s. reached_same _ _ _ same _ _ _ _ _ s.rest _ _ _ (reached_handed _ _ _ _ _ _ _ _ s.rest _ _ _ _ _ _ (sum_fits a) (low_fits a) sum_after low_after (run.ensures.1.1 (level_values h.level) table s.rest (subst⁻¹ (λ (bits : List ℕ). Holds Upto (at h.sums-1 h.lens-1 bits) h.paths s.rest) wide.ensures s.holds))) in
+    let reached : (s : Stopped h) → _ = λ s. reached_same _ _ _ same _ _ _ _ _ s.rest _ _ _ (reached_handed _ _ _ _ _ _ _ _ s.rest _ _ _ _ _ _ (sum_fits a) (low_fits a) sum_after low_after (run.ensures.reached (level_values h.level) table s.rest (subst⁻¹ (λ (bits : List ℕ). Holds Upto (at h.sums h.lens bits) h.paths s.rest) wide.ensures s.holds))) in
     record {
       column = refl;
       level = refl;
       summed = refl;
-      found = λ s. c.outcome_at.ensures ∙ outcome_handed run.result low_after ∙ found_by_going_on h s a.args.limit a.requires.limit_lt_limit.0 _ _ _ of _ _ _ _ run.new.0 run.new.1.0 c.narrowed-kept_bits.result standing (reached s);
-      stopped = λ s spent. stops_again h s a.args.limit a.requires.limit_lt_limit.0 _ _ _ of _ _ _ _ run.new.0 run.new.1.0 c.narrowed-kept_bits.result standing (reached s) (spent_has_no_word run.result (sym c.outcome_at.ensures ∙ spent));
+      found = λ s. c.outcome_at.ensures ∙ outcome_handed run.result low_after ∙ found_by_going_on h s a.args.limit a.requires.limit_lt_limit.0 _ _ _ of _ _ _ _ run.new.sums run.new.lens c.narrowed-kept_bits.result standing (reached s);
+      stopped = λ s spent. stops_again h s a.args.limit a.requires.limit_lt_limit.0 _ _ _ of _ _ _ _ run.new.sums run.new.lens c.narrowed-kept_bits.result standing (reached s) (spent_has_no_word run.result (sym c.outcome_at.ensures ∙ spent));
     }

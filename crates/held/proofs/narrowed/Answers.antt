@@ -1,5 +1,5 @@
 use mathlib.Core.Path.{◌≡◌, refl, sym, ◌∙◌}
-use Prim.Native.Nat.{ℕ, ◌-◌, ◌≤◌, ◌<◌}
+use Prim.Native.Nat.{ℕ, ◌≤◌, ◌<◌}
 use lib.ListN.{length, length-set, get_or, get_or-eq_default}
 use mathlib.Core.List.{List}
 use native.Mathlib.Decide.{dec_le}
@@ -9,23 +9,13 @@ use native.Mathlib.Omega.{arith}
 use borrow.Author.Rules.{rules}
 use Rattle.held.proofs.narrowed.Goals as goal
 
-    narrow : List ℕ
-    narrow = c.before.loop.narrow
-
-    from : length bits ≡ 2002
-    from = search rules
-
-    go : (j : ℕ) → Dec (2002 ≤ j) → get_or bits j 0 < 4294967296 → get_or narrow j 0 ≡ get_or bits j 0
-    go j (yes l) h = get_or-eq_default narrow 0 {n = j} (omega (arith, c.before.loop.invariant.1)) ∙ sym (get_or-eq_default bits 0 {n = j} (omega (arith, from)))
-    go j (no l) h = c.before.loop.invariant.2 j (omega (arith, c.loop-test.false)) h
-
 pub loop-k-init : goal.loop-k-init
 loop-k-init c = (omega arith, refl, λ j h. absurd (omega arith))
 
 pub loop-k-preserved : goal.loop-k-preserved
 loop-k-preserved c =
     let i = c.loop-k in
-    let bits = c.args.t1 in
+    let bits = c.args.bits in
     let full : length i.narrow ≡ 2002 = i.invariant.1 in (
       omega (arith, c.loop-k-test.true),
       length-set i.narrow _ _ ∙ full,
@@ -36,4 +26,14 @@ pub returns : goal.returns
 returns c = record { same = λ j. go j (dec_le 2002 j) }
   where
     bits : List ℕ
-    bits = c.args.t1
+    bits = c.args.bits
+
+    narrow : List ℕ
+    narrow = c.loop-k.narrow
+
+    from : length bits ≡ 2002
+    from = search rules
+
+    go : (j : ℕ) → Dec (2002 ≤ j) → get_or bits j 0 < 4294967296 → get_or narrow j 0 ≡ get_or bits j 0
+    go j (yes l) h = get_or-eq_default narrow 0 {n = j} (omega (arith, c.loop-k.invariant.1)) ∙ sym (get_or-eq_default bits 0 {n = j} (omega (arith, from)))
+    go j (no l) h = c.loop-k.invariant.2 j (omega (arith, c.loop-k-test.false)) h

@@ -1,13 +1,7 @@
 -- `held::narrowed` meets its contract: the first k are filled. Assumes nothing.
-use mathlib.Core.Path.{◌≡◌, refl, sym, ◌∙◌}
+use mathlib.Core.Path.{◌≡◌}
 use Prim.Native.Nat.{ℕ, ◌-◌, ◌≤◌, ◌<◌}
-use lib.ListN.{length, length-set, get_or, get_or-eq_default}
-use mathlib.Core.List.{List}
-use native.Mathlib.Decide.{dec_le}
-use native.Mathlib.Nat.{mod-eq_of_lt}
-use Rattle.held.proofs.Widths.{one_more_filled}
-use native.Mathlib.Omega.{arith}
-use borrow.Author.Rules.{rules}
+use lib.ListN.{length, get_or}
 use Rattle.held.proofs.narrowed.Given as goal
 
 abbrev pub invariant-loop-k : goal.invariant-loop-k

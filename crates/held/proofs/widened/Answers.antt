@@ -1,5 +1,4 @@
 use mathlib.Core.Path.{◌≡◌, refl, sym, ◌∙◌}
-use Prim.Native.Nat.{ℕ, ◌-◌, ◌≤◌, ◌<◌}
 use lib.ListN.{length, length-set, get_or}
 use lib.Seq.{ext_get_or}
 use Rattle.held.proofs.Widths.{one_more_filled}
@@ -13,12 +12,12 @@ loop-k-init c = (omega arith, refl, λ j h. absurd (omega arith))
 pub loop-k-preserved : goal.loop-k-preserved
 loop-k-preserved c =
     let i = c.loop-k in
-    let bits = c.args.t1 in
+    let bits = c.args.bits in
     let full : length i.wide ≡ 2002 = i.invariant.1 in
     (omega (arith, c.loop-k-test.true), length-set i.wide _ _ ∙ full, one_more_filled (λ j v. v ≡ get_or bits j 0) i.wide i.k _ (omega (arith, full, c.loop-k-test.true)) i.invariant.2 refl)
 
 pub returns : goal.returns
 returns c =
     let i = c.loop-k in
-    let from : length c.args.t1 ≡ 2002 = search rules in
+    let from : length c.args.bits ≡ 2002 = search rules in
     ext_get_or 0 _ _ (i.invariant.1 ∙ sym from) (λ j l. i.invariant.2 j (omega (arith, l, i.invariant.1, c.loop-k-test.false)))

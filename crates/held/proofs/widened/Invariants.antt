@@ -1,11 +1,7 @@
 -- `held::widened` meets its contract: the first k are filled. Assumes nothing.
-use mathlib.Core.Path.{◌≡◌, refl, sym, ◌∙◌}
+use mathlib.Core.Path.{◌≡◌}
 use Prim.Native.Nat.{ℕ, ◌-◌, ◌≤◌, ◌<◌}
-use lib.ListN.{length, length-set, get_or}
-use lib.Seq.{ext_get_or}
-use Rattle.held.proofs.Widths.{one_more_filled}
-use native.Mathlib.Omega.{arith}
-use borrow.Author.Rules.{rules}
+use lib.ListN.{length, get_or}
 use Rattle.held.proofs.widened.Given as goal
 
 abbrev pub invariant-loop-k : goal.invariant-loop-k

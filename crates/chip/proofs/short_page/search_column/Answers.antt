@@ -7,11 +7,14 @@ use Rattle.chip.proofs.short_page.search_column.Goals as goal
 
 pub search-requires : goal.search-requires
 search-requires c =
-    let start = c in
-    (given_short _ _ _ _ start.requires.searchable30, start.requires.1)
+    record {
+      given = given_short _ _ _ _ c.requires.searchable30;
+      leading = c.requires.leading;
+      places = c.requires.places;
+    }
 
 pub returns : goal.returns
 returns c = record {
-        places_2 = c.search.ensures.places_2;
-        by_index = λ i h tables. search_short i h _ _ _ _ tables _ _ (c.search.ensures.value (level_values i) (level_table supercode i _ _ _ tables));
-      }
+  places_2 = c.search.ensures.places_2;
+  by_index = λ i h tables. search_short i h _ _ _ _ tables _ _ (c.search.ensures.value (level_values i) (level_table supercode i _ _ _ tables));
+}

@@ -1,11 +1,7 @@
 -- `held::ready::all_placed` meets its contract. The loop's invariant: those passed are placed. Assumes nothing.
 use Prim.Native.Nat.{ℕ, ◌-◌, ◌<◌, ◌≤◌}
-use borrow.Author.Tests.{not-false}
 use Rattle.stack.specs.Places.{at}
 use Rattle.held.specs.State.{Placed}
-use Rattle.held.proofs.Testing.{refuted, shown, fails, one_more}
-use native.Mathlib.Omega.{arith}
-use borrow.Author.Rules.{rules}
 use Rattle.held.proofs.ready.all_placed.Given as goal
 
 abbrev pub invariant-loop-j : goal.invariant-loop-j

@@ -2,7 +2,6 @@
 use native.Mathlib.Nat.{div-eq_of_lt}
 use Rattle.held.proofs.Testing.{refuted, most_fits, least_fits, below_least_is_not_good, good_exactly}
 use native.Mathlib.Omega.{arith}
-use borrow.Author.Rules.{rules}
 use Rattle.held.proofs.ready.is_good.Goals as goal
 
 pub returns-then-l-gt30 : goal.returns-then-l-gt30
@@ -18,7 +17,7 @@ pub overflow_sub-most : goal.overflow_sub-most
 overflow_sub-most c = least_fits _ c.if-l-gt30.false
 
 pub returns-then-s-most : goal.returns-then-s-most
-returns-then-s-most c = let a = c.before in refuted (below_least_is_not_good _ c.if-l-gt30.false _ _ a.ranges.s c.if-s-most.true)
+returns-then-s-most c = refuted (below_least_is_not_good _ c.if-l-gt30.false _ _ c.ranges.s c.if-s-most.true)
 
 pub returns : goal.returns
-returns c = let a = c.before in good_exactly _ c.if-l-gt30.false _ _ a.ranges.s c.if-s-most.false c.if-b-l-ne0.false
+returns c = good_exactly _ c.if-l-gt30.false _ _ c.ranges.s c.if-s-most.false c.if-b-l-ne0.false

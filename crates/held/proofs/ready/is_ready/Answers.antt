@@ -1,8 +1,8 @@
 -- `held::ready::is_ready` meets its contract. Assumes nothing.
-use mathlib.Core.Path.{◌≡◌, refl}
+use mathlib.Core.Path.{◌≡◌, refl, ap}
 use Prim.Native.Nat.{◌≤◌}
 use lib.ListN.{length}
-use borrow.Author.Tests.{not-false}
+use mathlib.Core.Bool.{not}
 use mir.Syntax.{w16}
 use mir.Val.{SFits}
 use Rattle.questions.specs.Questions.{first_above}
@@ -33,7 +33,7 @@ returns-then-held c = refuted (λ r. omega (arith, r.standing.few, c.if-held.tru
 pub returns-then-not-is_good : goal.returns-then-not-is_good
 returns-then-not-is_good c =
     let a = (goal.at.returns-then-not-is_good c).Start in
-    refuted (λ r. fails (good_handed _ _ _ _ _ (fits_of a) refl c.is_good.ensures) c.if-not-is_good.true r.standing.good)
+    refuted (λ r. fails (good_handed _ _ _ _ _ (fits_of a) refl c.is_good.ensures) (ap not c.if-not-is_good.true) r.standing.good)
 
 pub returns : goal.returns
 returns c =
@@ -41,5 +41,5 @@ returns c =
     let first = tested in
     let a = (goal.at.returns c).Start in
     let range : 30 ≤ first_above a.args.held.column 7 = omega (arith, first.first_above.ensures, first.if-first_above-lt30.false) in
-    let good = (good_handed _ _ _ _ _ (fits_of a) refl tested.is_good.ensures).0 (not-false _ tested.if-not-is_good.false) in
-    ready_exactly a.args.held (full_of a) c.all_Placed.result first.if-held-ge4.false range tested.if-held.false good c.all_Placed.ensures
+    let good = (good_handed _ _ _ _ _ (fits_of a) refl tested.is_good.ensures).0 tested.if-not-is_good.false in
+    ready_exactly a.args.held (full_of a) c.all_placed.result first.if-held-ge4.false range tested.if-held.false good c.all_placed.ensures
