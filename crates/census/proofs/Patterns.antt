@@ -43,6 +43,8 @@ no_ones (suc n) = no_ones n
 -- what stands there has k ones among n bits
 only_those : (n k : ℕ) (p : Pattern) → Mem p (patterns n k) → OnesAmong n k p
 unfolding patterns ones
+only_those n zero p (inr x'') = elim x'' [ ]
+only_those zero (suc k) p m = elim m [ ]
 only_those n zero p (inl e) = record { bits = ap length e ∙ length-replicate n false; many = ap ones e ∙ no_ones n }
 only_those (suc n) (suc k) p m =
     ⊎_elim (λ i. let (q, e, j) = of_map (◌∷◌ true) p (patterns n k) i in one_first q e (only_those n k q j))
@@ -58,6 +60,7 @@ only_those (suc n) (suc k) p m =
 -- a zero in front is one bit more and no one more
 zero_in_front : (n k : ℕ) (p : Pattern) → Mem p (patterns n k) → Mem (false ∷ p) (patterns (suc n) k)
 unfolding patterns
+zero_in_front n zero p (inr x'') = elim x'' [ ]
 zero_in_front n zero p (inl e) = inl (ap (◌∷◌ false) e)
 zero_in_front n (suc k) p m =
     in_append (false ∷ p) (map (◌∷◌ true) (patterns n k)) (map (◌∷◌ false) (patterns n (suc k)))

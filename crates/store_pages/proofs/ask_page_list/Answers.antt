@@ -1,6 +1,5 @@
 -- `store_pages::ask_page_list` meets its contract: what asking by either search gives. Assumes nothing.
 use mathlib.Core.Bool.{true}
-use borrow.Author.Rules.{rules}
 use Rattle.trellis.specs.Demand.{supercode}
 use Rattle.store_pages.proofs.Asked.{as_handed_on}
 use Rattle.store_pages.proofs.ask_page_list.Goals as goal

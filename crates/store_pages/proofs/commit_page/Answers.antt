@@ -8,7 +8,6 @@ use Rattle.questions.specs.declared.Outcome.TheVariants.{Refused}
 use Rattle.questions.proofs.Filled.{refused, done}
 use Rattle.store_pages.specs.Committing.{no_word_in, commit_answer}
 use Rattle.store_pages.proofs.Committing.{symbols_are_a_word}
-use borrow.Author.Rules.{rules}
 use Rattle.store_pages.proofs.commit_page.Goals as goal
 
 pub returns-then-symbols-ne252 : goal.returns-then-symbols-ne252

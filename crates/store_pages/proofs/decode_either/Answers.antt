@@ -9,7 +9,6 @@ use Rattle.list_of_two.specs.Ways.{chosen}
 use Rattle.page.specs.Outcomes.{data_buffer}
 use Rattle.store_pages.specs.Pages.{decoded_page}
 use Rattle.store_pages.proofs.Asked.{ready, refused_as, as_handed_on, filled_in_its_way}
-use borrow.Author.Rules.{rules}
 use Rattle.store_pages.proofs.decode_either.Goals as goal
 
 pub way_of-requires : goal.way_of-requires
@@ -26,10 +25,9 @@ decode_page-requires c =
 pub returns-in-Done : goal.returns-in-Done
 returns-in-Done c =
     let args = c.args in
-    filled_in_its_way data_buffer c.way_of.result args.second args.threshold c.ranges.threshold args.in-supercodes args.soft.now args.limit args.«data».now c.way_of.ensures.limit_value (sym c.in-Done.is ∙ c.page_questions.ensures) _ _ c.decode_page.ensures.value c.decode_page.ensures.data_after
+    filled_in_its_way data_buffer c.way_of.result args.second args.threshold c.ranges.threshold args.in_supercodes args.soft.now args.limit args.«data».now c.way_of.ensures.limit_value (sym c.in-Done.is ∙ c.page_questions.ensures) _ _ c.decode_page.ensures.value c.decode_page.ensures.data_after
 
 pub returns-in-Refused : goal.returns-in-Refused
 returns-in-Refused c =
     let args = c.args in
-    let told = c.n-1.given in
-    as_handed_on args.second args.threshold c.ranges.threshold (search_of args.in-supercodes) (refused_as (decoded_page (chosen args.second _) (search_of args.in-supercodes) args.soft.now args.limit) data_buffer (chosen args.second _) args.soft.now args.limit args.«data».now told.0.0 told.0.1.0 (sym told.1 ∙ c.page_questions.ensures) _ c.refused.ensures)
+    as_handed_on args.second args.threshold c.ranges.threshold (search_of args.in_supercodes) (refused_as (decoded_page (chosen args.second _) (search_of args.in_supercodes) args.soft.now args.limit) data_buffer (chosen args.second _) args.soft.now args.limit args.«data».now c.in-Refused.n c.in-Refused.p (sym c.in-Refused.is ∙ c.page_questions.ensures) _ c.refused.ensures)

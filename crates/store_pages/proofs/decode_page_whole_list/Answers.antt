@@ -1,6 +1,5 @@
 -- `store_pages::decode_page_whole_list` meets its contract: what page decoding by either search gives. Assumes nothing.
 use mathlib.Core.Bool.{true}
-use borrow.Author.Rules.{rules}
 use Rattle.trellis.specs.Demand.{whole}
 use Rattle.store_pages.proofs.Asked.{as_handed_on}
 use Rattle.store_pages.proofs.decode_page_whole_list.Goals as goal

@@ -1,7 +1,6 @@
 -- `store_pages::encode_page` meets its contract: each return rewrites with the tests that led there. Assumes nothing.
 use borrow.Author.Tests.{eq-eqb, ne_eqb}
 use Rattle.questions.proofs.Filled.{refused, done}
-use borrow.Author.Rules.{rules}
 use Rattle.store_pages.proofs.encode_page.Goals as goal
 
 pub returns-then-data-ne150 : goal.returns-then-data-ne150

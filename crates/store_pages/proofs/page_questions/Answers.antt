@@ -8,9 +8,8 @@ use Rattle.list_of_two.proofs.Thresholds.{allowed_is}
 use Rattle.questions.specs.Questions.{ask, first_above}
 use Rattle.questions.specs.declared.Outcome.TheVariants.{Done, Refused}
 use Rattle.store_pages.specs.Pages.{ask_page}
-use borrow.Author.Tests.{eq-eqb, ne_eqb, le-leb, lt-leb, not-true, not-false}
+use borrow.Author.Tests.{eq-eqb, ne_eqb, le-leb, lt-leb}
 use native.Mathlib.Omega.{arith}
-use borrow.Author.Rules.{rules}
 use Rattle.store_pages.proofs.page_questions.Goals.{After-first_above-bad}
 use Rattle.store_pages.proofs.page_questions.Goals as goal
 
@@ -18,13 +17,11 @@ use Rattle.store_pages.proofs.page_questions.Goals as goal
 up_to_the_values : (r : After-first_above-bad) → let a = r.args in
     (b : Bool) → leb 1890 (first_above a.soft.now 7) ≡ b → ask b (Refused 5 (first_above a.soft.now 7)) Done ≡ ask_page (chosen a.second a.threshold) a.soft.now a.limit a.room Refused Done
 up_to_the_values r b values =
-    let allowed = r in
-    let start = allowed in
-    let args = start.args in
-    let some : 1 ≤ args.limit = omega (arith, allowed.if-limit-lt1.false) in
-    let most : args.limit ≤ 2000 = omega (arith, allowed.if-limit-gt2000.false) in
-    let in_range = allowed_is args.second args.threshold start.ranges.threshold allowed.threshold_allowed.ensures ∙ not-false _ allowed.if-not-threshold_allowed.false in
-    simp (eq-eqb _ _ allowed.if-soft-ne1890.false, not-false args.room allowed.if-not-room.false, le-leb _ _ some, le-leb _ _ most, in_range, values)
+    let args = r.args in
+    let some : 1 ≤ args.limit = omega (arith, r.if-limit-lt1.false) in
+    let most : args.limit ≤ 2000 = omega (arith, r.if-limit-gt2000.false) in
+    let in_range = allowed_is args.second args.threshold r.ranges.threshold r.threshold_allowed.ensures ∙ r.if-not-threshold_allowed.false in
+    simp (eq-eqb _ _ r.if-soft-ne1890.false, r.if-not-room.false, le-leb _ _ some, le-leb _ _ most, in_range, values)
 
 pub returns-then-soft-ne1890 : goal.returns-then-soft-ne1890
 returns-then-soft-ne1890 c = simp (ne_eqb _ _ c.if-soft-ne1890.true)
