@@ -40,6 +40,10 @@ fails so n p = true≢false (sym (so.1 p) ∙ not-true _ n)
 
 -- ---- a good key
 
+-- more than 30 bits are too many
+pub too_long_is_not_good : (s : ℤ) (l b : ℕ) → 30 < l → (false ≡ true) ↔ Good 30 (key s l b)
+too_long_is_not_good s l b long = refuted (λ g. omega (arith, g.short))
+
 -- within m of zero is not below -m
 near_is_not_below : (z : ℤ) (m : ℕ) → nat_abs z ≤ m → lt_z z (neg_ℤ (pos m)) ≡ false
 near_is_not_below (pos n) zero h = le-ltb n 0 (omega arith)

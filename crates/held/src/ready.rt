@@ -8,6 +8,7 @@ ghost use Rattle.held.specs.State.{Placed, Ready};
 use crate::Held;
 
 // Whether a key is one of a path of at most 30 bits: none above the length, and the sum at most 60 a bit from zero.
+#[tactic(auto, using(crate::proofs::Testing::too_long_is_not_good))]
 fn is_good(s: i16, l: u8, b: u64) -> bool
     ensures { (result ≡ true) ↔ Good 30 (key s l b) }
 {
