@@ -1,6 +1,6 @@
 -- The loop that writes the marks of a report, level by level, behind its first 12 bytes, and the report that results with the low point. Assumes nothing.
 use mathlib.Core.List.{List, ◌++◌}
-use mathlib.Core.Path.{◌≡◌, refl, sym, ap, ◌∙◌}
+use mathlib.Core.Path.{ap₂, ◌≡◌, refl, sym, ap, ◌∙◌}
 use Prim.Native.Nat.{ℕ, ◌+◌, ◌-◌, ◌*◌, ◌≤◌, ◌<◌}
 use native.Mathlib.Omega.{arith}
 use lib.Dec.{lit≤}
@@ -93,6 +93,10 @@ to_marks_length r =
 
 pub low_at : (r : Report) → low_bytes r.low ≡ take 2 (drop 76 (report_bytes r))
 low_at r = sym (ap (take 2) (drop_at (steps_to_marks r) (low_bytes r.low) 76 (to_marks_length r)) ∙ take_all 2 (low_bytes r.low) (omega (arith, digits_length 256 2 (sixteen_bits r.low))))
+
+-- a front of 12 bytes, copied over the first 12 of a buffer
+pub front_copied : (front old : List ℕ) → length front ≡ 12 → front ++ drop 12 old ≡ take (length front) front ++ drop (length front) old
+front_copied front old size = ap₂ (λ (s : List ℕ) (n : ℕ). s ++ drop n old) (sym (take_all (length front) front (omega arith))) (sym size)
 
 pub report_is : (r : Report) (front old copied marked low : List ℕ) → length old ≡ 78 → front ≡ steps_and_totals r → copied ≡ take (length front) front ++ drop (length front) old
     → marked ≡ take 12 (take 76 (drop 0 copied)) ++ mark_bytes 4 r.changed_marks r.erased_marks → low ≡ low_bytes r.low

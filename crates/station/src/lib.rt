@@ -143,7 +143,7 @@ fn returned_page(outcome: PageOutcome, report: &mut [u8]) -> u64
     let erased = told.erased_marks;
     let low = told.low;
     let front = steps_and_totals(told);
-    report.copy_from_slice(&front);
+    report[0..12].copy_from_slice(&front);
     write_marks(changed, erased, &mut report[0..76]);
     write_low(low, &mut report[76..78]);
     returned_number(number, place)

@@ -5,7 +5,10 @@ use mir.Val.{SFits}
 use mir.Facts.{to_z-of_z}
 use borrow.Author.Tests.{eq-eqb, ne_eqb}
 use Rattle.station.specs.Report.{low_bytes}
-use Rattle.station.proofs.Marking.{report_is}
+use Prim.Native.Nat.{ℕ}
+use mathlib.Core.List.{List, ◌++◌}
+use lib.ListN.{length, drop}
+use Rattle.station.proofs.Marking.{front_length, front_copied, report_is}
 use borrow.Author.Rules.{rules}
 use Rattle.station.proofs.returned_page.Goals as goal
 
@@ -16,5 +19,5 @@ pub returns : goal.returns
 returns c =
     let told = c.args.outcome.report in
     let fits : SFits w16 told.low = record { sfits = search rules } in
-    let is = report_is told _ _ _ _ _ c.requires.2 c.steps_and_totals-front.ensures c.copy.ensures.1 c.write_marks.ensures (c.write_low.ensures ∙ ap low_bytes (to_z-of_z fits)) in
+    let is = report_is told _ _ _ _ _ c.requires.2 c.steps_and_totals-front.ensures (ap (λ (s : List ℕ). s ++ drop 12 c.args.report.now) c.copy_from_slice.ensures.after ∙ front_copied _ c.args.report.now (ap length c.steps_and_totals-front.ensures ∙ front_length told)) c.write_marks.ensures (c.write_low.ensures ∙ ap low_bytes (to_z-of_z {w = w16} fits)) in
     (c.returned_number-2.ensures, simp (eq-eqb _ _ c.if-number-ne0.false) is)

@@ -10,19 +10,19 @@ use Rattle.station.proofs.station_ask_page_limit.Goals as goal
 pub returned_number-requires : goal.returned_number-requires
 returned_number-requires c =
     let args = c.args in
-    (number_is_small args.soft.now args.report-1.now _ c.lengths_asked-bad.ensures, omega arith)
+    (number_is_small args.soft.now args.report.now _ c.lengths_asked-bad.ensures, omega arith)
 
 pub returns-then-bad-ne0 : goal.returns-then-bad-ne0
 returns-then-bad-ne0 c =
     let args = c.args in
-    refused_by_length symbol_buffer off args.soft.now args.limit args.symbols-1.now args.report-1.now _ c.lengths_asked-bad.ensures c.if-bad-ne0.true c.returned_number.ensures
+    refused_by_length symbol_buffer off args.soft.now args.limit args.symbols.now args.report.now _ c.lengths_asked-bad.ensures c.if-bad-ne0.true c.returned_number.ensures
 
 pub returned_page-requires : goal.returned_page-requires
 returned_page-requires c =
     let args = c.args in
-    report_may_be_written symbol_buffer off args.soft.now _ args.symbols-1.now args.report-1.now _ c.lengths_asked-bad.ensures c.if-bad-ne0.false _ _ c.ask_page.ensures
+    report_may_be_written symbol_buffer off args.soft.now _ args.symbols.now args.report.now _ c.lengths_asked-bad.ensures c.if-bad-ne0.false _ _ c.ask_page.ensures
 
 pub returns : goal.returns
 returns c =
     let args = c.args in
-    returned_by_the_call symbol_buffer off args.soft.now args.limit args.symbols-1.now args.report-1.now _ c.lengths_asked-bad.ensures c.if-bad-ne0.false _ _ c.ask_page.ensures _ _ c.returned_page.ensures
+    returned_by_the_call symbol_buffer off args.soft.now args.limit args.symbols.now args.report.now _ c.lengths_asked-bad.ensures c.if-bad-ne0.false _ _ c.ask_page.ensures _ _ c.returned_page.ensures

@@ -10,7 +10,7 @@ use Rattle.station.proofs.station_encode_page.Goals as goal
 pub returned_outcome-requires : goal.returned_outcome-requires
 returned_outcome-requires c =
     let args = c.args in
-    subst⁻¹ SmallOutcome c.encode_page.ensures.answer (encode_small args.«data».now args.page-1.now)
+    subst⁻¹ SmallOutcome c.encode_page.ensures.answer (encode_small args.«data».now args.page.now)
 
 pub returns : goal.returns
 returns c =

@@ -10,7 +10,7 @@ use Rattle.station.proofs.station_read_dump.Goals as goal
 pub returned_outcome-requires : goal.returned_outcome-requires
 returned_outcome-requires c =
     let args = c.args in
-    subst⁻¹ SmallOutcome c.read_dump.ensures.answer (read_small args.dump.now args.soft-1.now)
+    subst⁻¹ SmallOutcome c.read_dump.ensures.answer (read_small args.dump.now args.soft.now)
 
 pub returns : goal.returns
 returns c =
