@@ -1,6 +1,6 @@
 -- Sum and product make a commutative ring, for every modulus of degree m. Assumes nothing.
 use mathlib.Core.Path.{◌≡◌, refl, sym, ap, ap₂, ◌∙◌}
-use Prim.Native.Nat.{ℕ, zero, suc, ◌+◌, ◌-◌, ◌*◌, ◌%◌, ◌^◌, ◌<◌}
+use Prim.Native.Nat.{ℕ, zero, suc, ◌+◌, ◌*◌, ◌%◌, ◌^◌, ◌<◌}
 use native.Mathlib.Nat
 use native.Mathlib.Nat.{mod-lt, mod-eq_of_lt, mod-mod}
 use native.Mathlib.Omega.{arith}

@@ -1,6 +1,6 @@
 -- The product is commutative and associative, has 1, and distributes over the sum. Assumes nothing.
 use mathlib.Core.Path.{◌≡◌, refl, sym, ap, ap₂, ◌∙◌}
-use Prim.Native.Nat.{ℕ, zero, suc, ◌-◌, ◌*◌, ◌/◌, ◌%◌, ◌^◌, ◌≤◌, ◌<◌}
+use Prim.Native.Nat.{ℕ, zero, suc, ◌*◌, ◌/◌, ◌%◌, ◌^◌, ◌≤◌, ◌<◌}
 use native.Mathlib.Nat
 use native.Mathlib.Nat.{le_refl, not-suc-le-zero, mod-lt, zero-lt-suc, pow-suc}
 use native.Mathlib.Decide.{le_ind}

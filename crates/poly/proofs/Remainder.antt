@@ -1,6 +1,6 @@
 -- The remainder by g keeps sums, has fewer digits than g, and is 0 exactly at the multiples of g. Assumes nothing.
 use mathlib.Core.Path.{◌≡◌, refl, sym, ap, ap₂, ◌∙◌, subst}
-use Prim.Native.Nat.{ℕ, zero, suc, ◌+◌, ◌-◌, ◌*◌, ◌/◌, ◌%◌, ◌^◌, ◌≤◌, ◌<◌}
+use Prim.Native.Nat.{ℕ, zero, suc, ◌+◌, ◌*◌, ◌/◌, ◌%◌, ◌^◌, ◌≤◌, ◌<◌}
 use native.Mathlib.Nat
 use native.Mathlib.Nat.{le_refl, not-suc-le-zero, mod-lt, zero-lt-suc, pow-suc, div-eq_of_lt}
 use native.Mathlib.Decide.{le_ind}

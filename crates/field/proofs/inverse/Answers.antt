@@ -1,7 +1,6 @@
 -- `field::inverse` meets its contract: the exponents of the products add up to 62. Assumes nothing.
 use mathlib.Core.Path.{refl}
 use lib.Dec.{lit<}
-use borrow.Author.Rules.{rules}
 use Rattle.field.specs.Element.{inverse}
 use Rattle.field.proofs.Ring.{power_square, power_next, power_join}
 use Rattle.field.proofs.inverse.Goals as goal

@@ -1,7 +1,6 @@
 -- `field::product` meets its contract: six digits of b, the highest first, each by the law of one digit more. Assumes nothing.
 use mathlib.Core.Path.{refl}
 use lib.Dec.{lit<}
-use borrow.Author.Rules.{rules}
 use Rattle.field.proofs.Digits.{last, more, whole}
 use Rattle.field.proofs.product.Goals as goal
 

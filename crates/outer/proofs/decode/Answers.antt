@@ -12,7 +12,7 @@ use Rattle.reedsolomon.proofs.Deciding.{decoded_found, decoded_none, padded_row,
 use native.Mathlib.Omega.{arith}
 use Rattle.outer.proofs.decode.Goals as goal
 
--- the received row in a longer list
+-- the received row in the longer list
 row_padded : (symbols row : List ℕ) → length symbols ≡ 63 → Symbols 6 symbols → WrittenAt 0 63 (symbol symbols) (replicate 64 0) row → Padded 6 63 row
 row_padded symbols row n inside written = padded_row 6 63 64 symbols row n inside written (lit< tt)
 
