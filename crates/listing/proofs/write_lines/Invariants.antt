@@ -1,4 +1,5 @@
--- `listing::write_lines` ends: each line is longer than nothing, and the measure is what is left of the text. What was written is the text before the line that begins. Assumes nothing.
+-- `listing::write_lines` ends: each line is longer than nothing, and the measure is what is left of the text. Assumes nothing.
+-- What was written is the text before the line that begins.
 use Rattle.std.proofs.Common.{◌-◌, ◌≤◌, length, take}
 use Rattle.std.specs.Io.KnownBytes.{Appends}
 use Rattle.listing.proofs.write_lines.Given as goal
