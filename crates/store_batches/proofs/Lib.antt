@@ -1,4 +1,3 @@
 pub mod Jobs
 pub mod Batches
-pub mod Lending
 pub mod Upto

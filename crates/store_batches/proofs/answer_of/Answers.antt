@@ -8,20 +8,20 @@ use Rattle.store_batches.proofs.answer_of.Goals as goal
 pub returns-then-soft-lt30 : goal.returns-then-soft-lt30
 returns-then-soft-lt30 c =
     record {
-        room = c.requires.0;
-        value = lies_outside c.args.soft.now c.args.limit c.args.job (omega (arith, c.if-soft-lt30.true));
-      }
+      room = c.requires.0;
+      value = lies_outside c.args.soft.now c.args.limit c.args.job (omega (arith, c.if-soft-lt30.true));
+    }
 
 pub returns-then-last-job : goal.returns-then-last-job
 returns-then-last-job c =
     record {
-        room = c.requires.0;
-        value = lies_outside c.args.soft.now c.args.limit c.args.job (omega (arith, c.if-last-job.true));
-      }
+      room = c.requires.0;
+      value = lies_outside c.args.soft.now c.args.limit c.args.job (omega (arith, c.if-last-job.true));
+    }
 
 pub returns : goal.returns
 returns c =
     record {
-        room = c.search_column.ensures.room;
-        value = c.search_column.ensures.value ∙ lies_inside c.args.soft.now c.args.limit c.args.job _ (search rules) refl;
-      }
+      room = c.search_column.ensures.room;
+      value = c.search_column.ensures.value ∙ lies_inside c.args.soft.now c.args.limit c.args.job _ (search rules) refl;
+    }

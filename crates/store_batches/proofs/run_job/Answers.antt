@@ -1,7 +1,6 @@
 -- `store_batches::run_job` meets its contract: the job's answer, written in. Assumes nothing.
 use mathlib.Core.Path.{ap, ◌∙◌}
 use Rattle.store_batches.specs.Jobs.{noted}
-use borrow.Author.Rules.{rules}
 use Rattle.store_batches.proofs.run_job.Goals as goal
 
 pub returns : goal.returns

@@ -4,7 +4,6 @@ use Rattle.trellis.specs.TwoWords.{off}
 use Rattle.questions.specs.declared.Outcome.TheVariants.{Done}
 use Rattle.searches.specs.declared.SearchAnswer.TheVariants.{Refused}
 use Rattle.searches.proofs.Questions.{ready, settled}
-use borrow.Author.Rules.{rules}
 use Rattle.store_batches.proofs.search_column.Goals as goal
 
 pub search_supercodes-requires : goal.search_supercodes-requires
@@ -14,13 +13,13 @@ search_supercodes-requires c =
 pub returns-in-Done : goal.returns-in-Done
 returns-in-Done c =
     record {
-        room = c.search_supercodes.ensures.room;
-        value = c.search_supercodes.ensures.value ∙ sym (settled off c.args.level c.args.column.now c.args.limit Refused _ Done (sym c.in-Done.is ∙ c.asked.ensures));
-      }
+      room = c.search_supercodes.ensures.room;
+      value = c.search_supercodes.ensures.value ∙ sym (settled off c.args.level c.args.column.now c.args.limit Refused _ Done (sym c.in-Done.is ∙ c.asked.ensures));
+    }
 
 pub returns-in-Refused : goal.returns-in-Refused
 returns-in-Refused c =
     record {
-        room = c.requires.0;
-        value = sym (settled off c.args.level c.args.column.now c.args.limit Refused _ _ (sym c.in-Refused.is ∙ c.asked.ensures));
-      }
+      room = c.requires.0;
+      value = sym (settled off c.args.level c.args.column.now c.args.limit Refused _ _ (sym c.in-Refused.is ∙ c.asked.ensures));
+    }
