@@ -2,7 +2,7 @@
 use mathlib.Core.Bool.{Bool, false, ◌||◌}
 use mathlib.Core.List.{List}
 use mathlib.Core.Path.{◌≡◌, refl, sym, ap, ap₂, ◌∙◌, subst⁻¹}
-use Prim.Native.Nat.{ℕ, zero, suc, ◌+◌, ◌-◌, ◌≤◌, ◌<◌}
+use Prim.Native.Nat.{ℕ, zero, suc, ◌+◌, ◌-◌, ◌<◌}
 use native.Mathlib.Omega.{arith}
 use lib.IntN.{ℤ}
 use mir.Syntax.{w16}
@@ -10,7 +10,7 @@ use mir.Val.{SFits, to_z, of_z}
 use mir.Facts.{to_z-of_z}
 use Rattle.column.specs.Shape.{short}
 use Rattle.paths.proofs.Booleans.{or_false}
-use Rattle.concatenated.specs.Decode.{Reading, Reader, State, going, stopped, run}
+use Rattle.concatenated.specs.Decode.{Reading, Reader, State, stopped, run}
 use Rattle.concatenated.specs.OuterCode.{short_outer}
 use Rattle.concatenated.specs.Chip.{some_column, some_of, some_below}
 use Rattle.readings.specs.Steps.{RowRead}

@@ -1,16 +1,14 @@
 -- The outcome of the code's search as the call's answer. Assumes nothing.
-use mathlib.Core.Bool.{Bool, true, false}
+use mathlib.Core.Bool.{Bool}
 use mathlib.Core.Path.{◌≡◌, refl, sym, ap, ap₂, ◌∙◌}
 use Prim.Native.Nat.{ℕ, ◌≤◌, ◌<◌}
 use native.Mathlib.Omega.{arith}
 use lib.IntN.{ℤ, pos}
-use lib.Dec.{ltb}
 use borrow.Author.Tests.{lt-ltb, le-ltb}
 use Rattle.paths.specs.Search.{SearchResult, answer, spent}
 use Rattle.paths.specs.Bounded.{BoundedResult}
 use Rattle.trellis.specs.Trellis.{WordFound}
 use Rattle.search.specs.Outcomes as search
-use Rattle.search.specs.declared.SearchOutcome.{SearchOutcome}
 use Rattle.search.specs.declared.SearchOutcome.TheVariants.{Found, Spent}
 use Rattle.chip.specs.Outcomes.{taken, code_outcome}
 use Rattle.chip.specs.declared.ChipOutcome.{ChipOutcome}

@@ -1,5 +1,5 @@
 -- 02, point 5: the questions put to the calls of the chip model, and their answers. Assumes nothing.
-use Rattle.std.specs.Prelude.{Bool, true, false, cond, List, ◌≡◌, ℕ, eqb, ltb, pos, length}
+use Rattle.std.specs.Prelude.{Bool, false, cond, List, ◌≡◌, ℕ, eqb, ltb, pos, length}
 use Rattle.column.specs.Shape.{short}
 use Rattle.paths.specs.Search.{SearchResult, answer, spent}
 use Rattle.paths.specs.Bounded.{BoundedResult}

@@ -1,7 +1,6 @@
 -- `chip_entries::entry_decode_page_chip` meets its contract: the call's outcome, as numbers. Assumes nothing.
 use mathlib.Core.Path.{ap}
 use Rattle.entries.specs.declared.PageReply.{PageReply}
-use borrow.Author.Rules.{rules}
 use Rattle.chip_entries.proofs.entry_decode_page_chip.Goals as goal
 
 pub returns : goal.returns

@@ -12,8 +12,7 @@ use Rattle.concatenated.specs.Chip.{chip_reader, chip_pushed_out}
 use Rattle.concatenated.proofs.SoftPages.{as_many_columns}
 use Rattle.page.specs.Outcomes.{outcome_of, data_buffer, filled}
 use Rattle.page.proofs.PageOutcomes.{soft_columns_lem, answer_is_packed, refusal_is_not_packed}
-use borrow.Author.Rules.{rules}
-use Rattle.chip_pages.proofs.decode_page.Goals.{After-decode_columns-read, After-told-told}
+use Rattle.chip_pages.proofs.decode_page.Goals.{After-told-told}
 use Rattle.chip_pages.proofs.decode_page.Goals as goal
 
 abbrev reader_of : After-told-told → Reader
@@ -21,19 +20,19 @@ reader_of told = chip_reader told.args.limit
 
 -- the columns that are decoded are the soft page's
 abbrev columns_of : After-told-told → List (List ℕ)
-columns_of told = (decoding_of told).before.load.new.1.0
+columns_of told = told.load.new.work
 
 loaded : (told : After-told-told) → columns_of told ≡ soft_columns short_page told.args.soft.now
-loaded told = (decoding_of told).before.load.ensures
+loaded told = told.load.ensures
 
 wide : (told : After-told-told) → length (columns_of told) ≡ 63
 wide told = ap length (loaded told) ∙ as_many_columns short_page told.args.soft.now
 
 outcome_is : (told : After-told-told) → told.told-told.result ≡ outcome_of (decoded short short_outer (reader_of told) (soft_columns short_page told.args.soft.now))
-outcome_is told = (told.told-told.ensures (reader_of told) _ (decoding_of told).decode-columns.ensures.0).0 ∙ ap (λ (p : List (List ℕ)). outcome_of (decoded short short_outer (reader_of told) p)) (loaded told)
+outcome_is told = (told.told-told.ensures (reader_of told) _ told.decode_columns-read.ensures.0).0 ∙ ap (λ (p : List (List ℕ)). outcome_of (decoded short short_outer (reader_of told) p)) (loaded told)
 
-pushed_is : (told : After-told-told) → (decoding_of told).decode-columns.result.pushed ≡ chip_pushed_out told.args.limit short_outer (soft_columns short_page told.args.soft.now)
-pushed_is told = (decoding_of told).decode-columns.ensures.1 ∙ ap (chip_pushed_out told.args.limit short_outer) (loaded told)
+pushed_is : (told : After-told-told) → told.decode_columns-read.result.pushed ≡ chip_pushed_out told.args.limit short_outer (soft_columns short_page told.args.soft.now)
+pushed_is told = told.decode_columns-read.ensures.1 ∙ ap (chip_pushed_out told.args.limit short_outer) (loaded told)
 
 pub decode_columns-read-requires : goal.decode_columns-read-requires
 decode_columns-read-requires c =
@@ -42,23 +41,23 @@ decode_columns-read-requires c =
 pub pack-requires : goal.pack-requires
 pack-requires c =
     let told = (goal.at.pack-requires c).After-told-told in
-    let given = told.told-told.ensures (reader_of told) (columns_of told) ((goal.at.pack-requires c).After-decode_columns-read).decode-columns.ensures.0 in
+    let given = told.told-told.ensures (reader_of told) (columns_of told) c.decode_columns-read.ensures.0 in
     ((answer_is_packed (reader_of told) (columns_of told) _ given.0 (wide told) c.if-told-eq0.true _ _ given.1).0, told.requires.3)
 
 pub returns-then-told-eq0 : goal.returns-then-told-eq0
 returns-then-told-eq0 c =
     let told = (goal.at.returns-then-told-eq0 c).After-told-told in
-    let given = told.told-told.ensures (reader_of told) (columns_of told) ((goal.at.returns-then-told-eq0 c).After-decode_columns-read).decode-columns.ensures.0 in
+    let given = told.told-told.ensures (reader_of told) (columns_of told) c.decode_columns-read.ensures.0 in
     let packed = (answer_is_packed (reader_of told) (columns_of told) _ given.0 (wide told) c.if-told-eq0.true _ _ given.1).1 told.args.«data».now _ c.pack.ensures in record {
-        page_value = outcome_is told;
-        pushed_value = pushed_is told;
-        data_after = packed ∙ ap (λ (p : List (List ℕ)). filled data_buffer told.args.«data».now (decoded short short_outer (reader_of told) p)) (loaded told);
-      }
+      page_value = outcome_is told;
+      pushed_value = pushed_is told;
+      data_after = packed ∙ ap (λ (p : List (List ℕ)). filled data_buffer told.args.«data».now (decoded short short_outer (reader_of told) p)) (loaded told);
+    }
 
 pub returns-else-told-eq0 : goal.returns-else-told-eq0
 returns-else-told-eq0 c =
     let told = (goal.at.returns-else-told-eq0 c).After-told-told in record {
-        page_value = outcome_is told;
-        pushed_value = pushed_is told;
-        data_after = refusal_is_not_packed (reader_of told) (soft_columns short_page told.args.soft.now) _ (outcome_is told) c.if-told-eq0.false _;
-      }
+      page_value = outcome_is told;
+      pushed_value = pushed_is told;
+      data_after = refusal_is_not_packed (reader_of told) (soft_columns short_page told.args.soft.now) _ (outcome_is told) c.if-told-eq0.false _;
+    }

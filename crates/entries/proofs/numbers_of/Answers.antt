@@ -8,4 +8,4 @@ pub returns-in-Value : goal.returns-in-Value
 returns-in-Value c = sym (ap told_of c.in-Value.is)
 
 pub returns-in-Refused : goal.returns-in-Refused
-returns-in-Refused c = sym (ap told_of c.answer-in-Refused-1.given.1)
+returns-in-Refused c = sym (ap told_of c.in-Refused.is)

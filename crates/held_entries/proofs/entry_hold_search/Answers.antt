@@ -1,7 +1,6 @@
 -- `held_entries::entry_hold_search` meets its contract: the call's outcome, its answer as numbers. Assumes nothing.
 use mathlib.Core.Path.{ap}
 use Rattle.entries.specs.declared.Found.{Found}
-use borrow.Author.Rules.{rules}
 use Rattle.held_entries.proofs.entry_hold_search.Goals as goal
 
 pub returns : goal.returns

@@ -6,7 +6,6 @@ use borrow.Author.Tests.{eqb-true}
 use Rattle.trellis.specs.TwoWords.{off}
 use Rattle.store_pages.proofs.Asked.{ready}
 use Rattle.store_chip.proofs.Pages.{chip_refused, chip_filled}
-use borrow.Author.Rules.{rules}
 use Rattle.store_chip.proofs.decode_page_chip.Goals as goal
 
 pub decode_page-requires : goal.decode_page-requires
@@ -23,5 +22,4 @@ returns-in-Done c =
 pub returns-in-Refused : goal.returns-in-Refused
 returns-in-Refused c =
     let args = c.args in
-    let refusal = c.n-1.given in
-    chip_refused args.soft.now args.limit args.«data».now refusal.0.0 refusal.0.1.0 (sym refusal.1 ∙ c.page_questions.ensures) _ c.refused.ensures
+    chip_refused args.soft.now args.limit args.«data».now _ _ (sym c.in-Refused.is ∙ c.page_questions.ensures) _ c.refused.ensures

@@ -1,5 +1,5 @@
 -- `store_chip::search_allowed` meets its contract: the tables are those of the supercode search, and the outcome is told. Assumes nothing.
-use mathlib.Core.Path.{◌≡◌, refl, sym}
+use mathlib.Core.Path.{◌≡◌, refl}
 use mir.Syntax.{w16}
 use mir.Facts.{to_z-of_z}
 use Rattle.trellis.specs.Demand.{supercode}
@@ -8,7 +8,6 @@ use Rattle.concatenated.specs.Chip.{chip_column}
 use Rattle.chip.specs.Outcomes.{code_outcome}
 use Rattle.chip.proofs.ShortSearch.{leading_tables}
 use Rattle.store_chip.proofs.Answers.{word_is_answered, empty_is_13, spent_is_9}
-use native.Mathlib.Omega.{arith}
 use borrow.Author.Rules.{rules}
 use Rattle.store_chip.proofs.search_allowed.Goals.{After-search_column-ended}
 use Rattle.store_chip.proofs.search_allowed.Goals as goal
@@ -20,16 +19,15 @@ pub search_column-ended-requires : goal.search_column-ended-requires
 search_column-ended-requires c =
     let tables = c.tables_of-tables.ensures in
     let allowed = c.requires in record {
-        searchable30 = column_searchable supercode c.args.level allowed.level c.args.soft.now _ _ _ allowed.full allowed.range tables;
-        leading = leading_tables c.args.level allowed.level _ _ _ tables;
-        places = record { sums = refl; lens = refl; bits = refl };
-      }
+      searchable30 = column_searchable supercode c.args.level allowed.level c.args.soft.now _ _ _ allowed.full allowed.range tables;
+      leading = leading_tables c.args.level allowed.level _ _ _ tables;
+      places = record { sums = refl; lens = refl; bits = refl };
+    }
 
 pub returns-in-Found : goal.returns-in-Found
 returns-in-Found c =
     let found = (goal.at.returns-in-Found c).After-search_column-ended in
-    let told = c.found-1.given in
-    word_is_answered found.args.limit _ _ (outcome_is found) _ _ _ _ told.1 (to_z-of_z {w = w16} (record { sfits = search rules }))
+    word_is_answered found.args.limit _ _ (outcome_is found) _ _ _ _ c.in-Found.is (to_z-of_z {w = w16} (record { sfits = search rules }))
 
 pub returns-then-ended-limit : goal.returns-then-ended-limit
 returns-then-ended-limit c =

@@ -1,6 +1,5 @@
 -- `store_chip::search_chip` meets its contract: the questions' answer settles which case it is. Assumes nothing.
 use mathlib.Core.Path.{sym, ◌∙◌}
-use borrow.Author.Rules.{rules}
 use Rattle.trellis.specs.TwoWords.{off}
 use Rattle.questions.specs.declared.Outcome.TheVariants.{Done}
 use Rattle.searches.proofs.Questions.{ready, settled}

@@ -1,7 +1,6 @@
 -- `store_held::asked_to_hold` meets its contract: each return rewrites with the tests that led there. Assumes nothing.
 use mathlib.Core.Path.{refl, sym, ◌∙◌}
 use borrow.Author.Tests.{eq-eqb, ne_eqb, le-ltb, lt-ltb}
-use borrow.Author.Rules.{rules}
 use Rattle.store_held.proofs.asked_to_hold.Goals as goal
 
 pub returns-then-soft-ne30 : goal.returns-then-soft-ne30

@@ -1,6 +1,5 @@
 -- `store_held::empty_store` meets its contract. Assumes nothing.
 use Rattle.store_held.specs.Calls.{empty_store}
-use borrow.Author.Rules.{rules}
 use Rattle.store_held.proofs.empty_store.Goals as goal
 
 pub returns : goal.returns

@@ -13,13 +13,16 @@ use Rattle.store_held.proofs.hold_search.Goals.{After-go_on-gone, In-Done}
 use Rattle.store_held.proofs.hold_search.Goals as goal
 
 done : (told : In-Done) → (let a = told.args in Done ≡ ask_hold a.name a.soft.now a.level a.limit Refused Done)
-done told = sym told.enum_told-1.given.1 ∙ told.asked_to_hold.ensures
+done told = sym told.in-Done.is ∙ told.asked_to_hold.ensures
 
 allowed : (told : In-Done) → (let a = told.args in (a.name < 4) × Allowed a.level a.soft.now a.limit)
 allowed told = let a = told.args in hold_ready a.name a.soft.now a.level a.limit (done told)
 
-gone : (went : After-go_on-gone) → (let a = went.before.args in BegunAndGone a.soft.now a.level a.limit went.go_on-gone.result)
-gone went = let a = went.before.args in begun_goes_on a.soft.now a.level a.limit _ went.begin.ensures (allowed went.before).1 _ went.go_on-gone.ensures
+gone : (went : After-go_on-gone) → (let a = went.args in BegunAndGone a.soft.now a.level a.limit went.go_on-gone.result)
+gone went =
+    let a = went.args in
+    let may = (hold_ready a.name a.soft.now a.level a.limit (sym went.in-Done.is ∙ went.asked_to_hold.ensures)).1 in
+    begun_goes_on a.soft.now a.level a.limit _ went.begin.ensures may _ went.go_on-gone.ensures
 
 pub begin-requires : goal.begin-requires
 begin-requires c = (allowed (goal.at.begin-requires c).In-Done).1.full
@@ -29,9 +32,9 @@ go_on-gone-requires c =
     let a = c.args in
     let may = (allowed (goal.at.go_on-gone-requires c).In-Done).1 in
     let none : c.begin.result.limit < a.limit = begun_is_below a.soft.now a.level a.limit _ c.begin.ensures may.some in record {
-        limit_lt_limit = (none, may.most);
-        ready = begun_is_allowed a.soft.now a.level a.limit _ c.begin.ensures may;
-      }
+      limit_lt_limit = (none, may.most);
+      ready = begun_is_allowed a.soft.now a.level a.limit _ c.begin.ensures may;
+    }
 
 pub offset_bounds-store-name : goal.offset_bounds-store-name
 offset_bounds-store-name c = let low = (allowed (goal.at.offset_bounds-store-name c).In-Done).0 in search rules
@@ -47,15 +50,13 @@ returns-in-Refused c =
 pub returns-in-Found : goal.returns-in-Found
 returns-in-Found c =
     let went = (goal.at.returns-in-Found c).After-go_on-gone in
-    let a = went.before.args in
-    let told = c.found-1.given in
-    hold_found a.name a.soft.now a.level a.limit _ (done went) _ _ _
-    (found_answer _ _ _ _ told.1 (to_z-of_z {w = w16} (record { sfits = search rules })) ∙ answered_as _ (gone went).found)
+    let a = c.args in
+    hold_found a.name a.soft.now a.level a.limit _ (done (goal.at.returns-in-Found c).In-Done) _ _ _
+    (found_answer _ _ _ _ c.in-Found.is (to_z-of_z {w = w16} (record { sfits = search rules })) ∙ answered_as _ (gone went).found)
 
 pub returns-in-Spent : goal.returns-in-Spent
 returns-in-Spent c =
-    let went = (goal.at.returns-in-Spent c).In-Done in
-    let a = went.before.args in
-    let spent = c.enum_told-in-Spent-1.given.1 in
-    let g = gone went in
-    hold_spent a.name a.soft.now a.level a.limit _ (done went) went.go_on-gone.result.held (g.stopped-1 spent) g.column g.level_is g.summed (ap as_answer (sym spent) ∙ answered_as _ g.found-1)
+    let a = c.args in
+    let spent = c.in-Spent.is in
+    let g = gone (goal.at.returns-in-Spent c).After-go_on-gone in
+    hold_spent a.name a.soft.now a.level a.limit _ (done (goal.at.returns-in-Spent c).In-Done) c.go_on-gone.result.held (g.stopped spent) g.column g.level_is g.summed (ap as_answer (sym spent) ∙ answered_as _ g.found)

@@ -5,7 +5,6 @@ use Prim.Native.Nat.{◌+◌, ◌≤◌, ◌<◌}
 use native.Mathlib.Omega.{arith}
 use mir.Syntax.{w16}
 use mir.Facts.{to_z-of_z}
-use borrow.Author.Tests.{not-true, not-false}
 use Rattle.questions.specs.declared.Outcome.TheVariants.{Done, Refused}
 use Rattle.searches.proofs.Outcomes.{found_answer}
 use Rattle.store_held.specs.Names.{ask_more}
@@ -15,10 +14,10 @@ use borrow.Author.Rules.{rules}
 use Rattle.store_held.proofs.take_up.Goals.{In-Done}
 use Rattle.store_held.proofs.take_up.Goals as goal
 
-done : (told : In-Done) → (let a = told.args in Done ≡ ask_more (entry a.t1 a.name).limit a.limit Refused Done)
-done told = sym told.enum_told-1.given.1 ∙ told.asked_for_more.ensures
+done : (told : In-Done) → (let a = told.args in Done ≡ ask_more (entry a.store a.name).limit a.limit Refused Done)
+done told = sym told.in-Done.is ∙ told.asked_for_more.ensures
 
-bounds : (told : In-Done) → (let a = told.args in (1 ≤ (entry a.t1 a.name).limit) × (1 ≤ a.limit) × ((entry a.t1 a.name).limit + a.limit ≤ 2000))
+bounds : (told : In-Done) → (let a = told.args in (1 ≤ (entry a.store a.name).limit) × (1 ≤ a.limit) × ((entry a.store a.name).limit + a.limit ≤ 2000))
 bounds told = more_ready _ _ (done told)
 
 low : (told : In-Done) → told.args.name < 4
@@ -40,9 +39,9 @@ overflow_add-summed c = let within = (bounds (goal.at.overflow_add-summed c).In-
 
 pub go_on-gone-requires : goal.go_on-gone-requires
 go_on-gone-requires c = record {
-        limit_lt_limit = (omega (arith, (bounds (goal.at.go_on-gone-requires c).In-Done).1), (bounds (goal.at.go_on-gone-requires c).In-Done).2);
-        ready = c.is_ready.ensures.0 c.if-not-is_ready.false;
-      }
+  limit_lt_limit = (omega (arith, (bounds (goal.at.go_on-gone-requires c).In-Done).1), (bounds (goal.at.go_on-gone-requires c).In-Done).2);
+  ready = c.is_ready.ensures.0 c.if-not-is_ready.false;
+}
 
 pub offset_bounds-store-i-in-Spent : goal.offset_bounds-store-i-in-Spent
 offset_bounds-store-i-in-Spent c = let in_range = low (goal.at.offset_bounds-store-i-in-Spent c).In-Done in search rules
@@ -57,11 +56,10 @@ returns-in-Refused c =
 pub returns-in-Found : goal.returns-in-Found
 returns-in-Found c =
     let told = (goal.at.returns-in-Found c).In-Done in
-    let found = c.found-1.given in
     take_found _ _ _ (low told) (done told) c.go_on-gone.result c.go_on-gone.ensures _ _ _
-    (found_answer _ _ _ _ found.1 (to_z-of_z {w = w16} (record { sfits = search rules }))) c.nothing.result c.nothing.ensures
+    (found_answer _ _ _ _ c.in-Found.is (to_z-of_z {w = w16} (record { sfits = search rules }))) c.nothing.result c.nothing.ensures
 
 pub returns-in-Spent : goal.returns-in-Spent
 returns-in-Spent c =
     let told = (goal.at.returns-in-Spent c).In-Done in
-    take_spent _ _ _ (low told) (done told) c.go_on-gone.result c.go_on-gone.ensures c.enum_told-in-Spent-1.given.1
+    take_spent _ _ _ (low told) (done told) c.go_on-gone.result c.go_on-gone.ensures c.in-Spent.is

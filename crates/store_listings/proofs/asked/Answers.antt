@@ -3,7 +3,6 @@ use mathlib.Core.Path.{subst}
 use Prim.Native.Nat.{ℕ, ◌≤◌, ◌<◌}
 use borrow.Author.Tests.{eq-eqb, ne_eqb, le-ltb, lt-ltb, le-leb, lt-leb}
 use Rattle.questions.specs.Questions.{first_above}
-use borrow.Author.Rules.{rules}
 use Rattle.store_listings.proofs.asked.Goals as goal
 
 pub returns-then-soft-ne30 : goal.returns-then-soft-ne30

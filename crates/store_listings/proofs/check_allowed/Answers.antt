@@ -7,7 +7,6 @@ use Rattle.checker.specs.Lines.{listing_of}
 use Rattle.checker.specs.Judging.{code_verdict}
 use Rattle.store_listings.specs.Listings.{named_trellis, as_answer}
 use Rattle.store_listings.proofs.Questions.{answered_as}
-use borrow.Author.Rules.{rules}
 use Rattle.store_listings.proofs.check_allowed.Goals.{After-judge_column-verdict}
 use Rattle.store_listings.proofs.check_allowed.Goals as goal
 
@@ -21,10 +20,10 @@ pub judge_column-verdict-requires : goal.judge_column-verdict-requires
 judge_column-verdict-requires c =
     let tables = c.tables_of-tables.ensures in
     let allowed = c.requires in record {
-        lines = record { few = allowed.most; both = sym allowed.both };
-        searchable30 = column_searchable (search_of c.args.in_supercodes) c.args.level allowed.level c.args.soft.now _ _ _ allowed.full allowed.range tables;
-        room = record { sums = refl; lens = refl; bits = refl };
-      }
+      lines = record { few = allowed.most; both = sym allowed.both };
+      searchable30 = column_searchable (search_of c.args.in_supercodes) c.args.level allowed.level c.args.soft.now _ _ _ allowed.full allowed.range tables;
+      room = record { sums = refl; lens = refl; bits = refl };
+    }
 
 pub returns-in-Accepted : goal.returns-in-Accepted
 returns-in-Accepted c = ap as_answer (sym c.in-Accepted.is) ∙ answered_as _ (verdict_is (goal.at.returns-in-Accepted c).After-judge_column-verdict)

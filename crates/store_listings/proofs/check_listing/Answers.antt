@@ -1,6 +1,5 @@
 -- `store_listings::check_listing` meets its contract: the questions' answer settles which case it is. Assumes nothing.
 use mathlib.Core.Path.{sym, ◌∙◌}
-use borrow.Author.Rules.{rules}
 use Rattle.questions.specs.declared.Outcome.TheVariants.{Done}
 use Rattle.store_listings.specs.declared.ListingAnswer.TheVariants.{Refused}
 use Rattle.store_listings.proofs.Questions.{ready, settled, answered}
