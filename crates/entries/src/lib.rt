@@ -323,7 +323,7 @@ pub extern "C" fn entry_commit_page(symbols: &[u8], data: &mut [u8]) -> Reply
 #[unsafe(no_mangle)]
 pub extern "C" fn entry_column_of<'a>(page: &'a [u8], j: usize, part: &mut &'a [u8])
     ensures part_after { part.new.now ≡ column_part short_page page.now j }
-    ensures placed_at { length page.now ≡ 1890 → j < 63 → placed_at part.new.ptr page.entry.ref_ptr (j * 30) }
+    ensures placed_at { length page.now ≡ 1890 → j < 63 → placed_at part.new.ref_ptr page.entry.ref_ptr (j * 30) }
 {
     *part = store_pages::column_of(page, j);
 }

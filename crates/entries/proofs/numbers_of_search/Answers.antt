@@ -10,8 +10,7 @@ use Rattle.entries.proofs.numbers_of_search.Goals as goal
 
 pub returns-in-Found : goal.returns-in-Found
 returns-in-Found c =
-    let told = c.answer-1.given in
-    ap (λ (z : ℤ). found_of (Found told.0.0 told.0.1.0 z)) (to_z-of_z {w = w16} (record { sfits = search rules })) ∙ sym (ap found_of told.1)
+    ap (λ (z : ℤ). found_of (Found c.in-Found.w c.in-Found.c z)) (to_z-of_z {w = w16} (record { sfits = search rules })) ∙ sym (ap found_of c.in-Found.is)
 
 pub returns-in-Refused : goal.returns-in-Refused
-returns-in-Refused c = sym (ap found_of c.answer-in-Refused-1.given.1)
+returns-in-Refused c = sym (ap found_of c.in-Refused.is)
