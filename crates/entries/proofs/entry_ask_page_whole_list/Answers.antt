@@ -2,7 +2,6 @@
 use mathlib.Core.Bool.{true}
 use Rattle.trellis.specs.Demand.{whole}
 use Rattle.store_pages.proofs.Asked.{as_handed_on}
-use borrow.Author.Rules.{rules}
 use Rattle.entries.proofs.entry_ask_page_whole_list.Goals as goal
 
 pub returns : goal.returns

@@ -1,7 +1,6 @@
 -- `entries::entry_commit_page` meets its contract: the call's outcome as two numbers, and its bytes. Assumes nothing.
 use mathlib.Core.Path.{ap, ◌∙◌}
 use Rattle.entries.specs.Told.{reply_of}
-use borrow.Author.Rules.{rules}
 use Rattle.entries.proofs.entry_commit_page.Goals as goal
 
 pub returns : goal.returns

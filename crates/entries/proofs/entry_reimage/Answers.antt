@@ -1,7 +1,6 @@
 -- `entries::entry_reimage` meets its contract: the call's answer, as three numbers. Assumes nothing.
 use mathlib.Core.Path.{ap, ◌∙◌}
 use Rattle.entries.specs.Told.{told_of}
-use borrow.Author.Rules.{rules}
 use Rattle.entries.proofs.entry_reimage.Goals as goal
 
 pub returns : goal.returns

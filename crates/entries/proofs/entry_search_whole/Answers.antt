@@ -1,7 +1,6 @@
 -- `entries::entry_search_whole` meets its contract: the call's answer, as four numbers. Assumes nothing.
 use mathlib.Core.Path.{ap, ◌∙◌}
 use Rattle.entries.specs.Told.{found_of}
-use borrow.Author.Rules.{rules}
 use Rattle.entries.proofs.entry_search_whole.Goals as goal
 
 pub returns : goal.returns

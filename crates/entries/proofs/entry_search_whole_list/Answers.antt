@@ -6,7 +6,6 @@ use Rattle.trellis.specs.TwoWords.{Choice}
 use Rattle.list_of_two.proofs.Thresholds.{handed_on}
 use Rattle.searches.specs.Searches.{search_answer}
 use Rattle.entries.specs.Told.{found_of}
-use borrow.Author.Rules.{rules}
 use Rattle.entries.proofs.entry_search_whole_list.Goals as goal
 
 pub returns : goal.returns

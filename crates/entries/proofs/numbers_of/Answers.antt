@@ -1,7 +1,6 @@
 -- `entries::numbers_of` meets its contract, case by case. Assumes nothing.
 use mathlib.Core.Path.{sym, ap}
 use Rattle.entries.specs.Told.{told_of}
-use borrow.Author.Rules.{rules}
 use Rattle.entries.proofs.numbers_of.Goals as goal
 
 pub returns-in-Value : goal.returns-in-Value

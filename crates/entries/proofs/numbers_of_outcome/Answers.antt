@@ -1,7 +1,6 @@
 -- `entries::numbers_of_outcome` meets its contract, case by case. Assumes nothing.
 use mathlib.Core.Path.{sym, ap}
 use Rattle.entries.specs.Told.{reply_of}
-use borrow.Author.Rules.{rules}
 use Rattle.entries.proofs.numbers_of_outcome.Goals as goal
 
 pub returns-in-Done : goal.returns-in-Done

@@ -10,8 +10,7 @@ use Rattle.entries.proofs.numbers_of_search.Goals as goal
 
 pub returns-in-Found : goal.returns-in-Found
 returns-in-Found c =
-    let told = c.in-Found in
-    ap (λ (z : ℤ). found_of (Found told.w told.c z)) (to_z-of_z {w = w16} (record { sfits = search rules })) ∙ sym (ap found_of told.is)
+    ap (λ (z : ℤ). found_of (Found c.in-Found.w c.in-Found.c z)) (to_z-of_z {w = w16} (record { sfits = search rules })) ∙ sym (ap found_of c.in-Found.is)
 
 pub returns-in-Refused : goal.returns-in-Refused
 returns-in-Refused c = sym (ap found_of c.in-Refused.is)

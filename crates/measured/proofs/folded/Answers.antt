@@ -12,7 +12,6 @@ use Rattle.measured.proofs.folded.Goals as goal
 
 pub returns-in-Found : goal.returns-in-Found
 returns-in-Found c =
-    let told = c.found-1.given in
-    let fits : SFits w16 told.0.1.1.0 = record { sfits = search rules } in
+    let fits : SFits w16 c.in-Found.low = record { sfits = search rules } in
     let low = c.sixteen_bits.ensures ∙ ap sixteen_bits (to_z-of_z fits) in
-    ap (λ (n : ℕ). bit_xor (bit_xor (told.0.0 * 2 ^ 11 % 2 ^ 64) told.0.1.0) (n * 2 ^ 48 % 2 ^ 64)) low ∙ ap folded (sym told.1)
+    ap (λ (n : ℕ). bit_xor (bit_xor (c.in-Found.word * 2 ^ 11 % 2 ^ 64) c.in-Found.count) (n * 2 ^ 48 % 2 ^ 64)) low ∙ ap folded (sym c.in-Found.is)

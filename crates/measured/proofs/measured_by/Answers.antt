@@ -2,7 +2,7 @@
 use mathlib.Core.Path.{sym, ◌∙◌, subst, subst⁻¹}
 use Prim.Native.Nat.{ℕ, ◌≤◌, ◌<◌}
 use lib.ListN.{length}
-use borrow.Author.Tests.{le-ltb, lt-ltb, le-leb, lt-leb, not-true, not-false}
+use borrow.Author.Tests.{le-ltb, lt-ltb, le-leb, lt-leb}
 use Rattle.search.proofs.ShortSearch.{level_table_near}
 use Rattle.list_of_two.proofs.Thresholds.{allowed_is, handed_on}
 use Rattle.questions.specs.Questions.{first_above}
@@ -10,7 +10,6 @@ use Rattle.questions.proofs.FirstAbove.{below_first}
 use Rattle.measured.specs.Folds.{named}
 use Rattle.measured.proofs.Parts.{folded_by_its_way}
 use native.Mathlib.Omega.{arith}
-use borrow.Author.Rules.{rules}
 use Rattle.measured.proofs.measured_by.Goals as goal
 
 pub returns-then-level-ge4 : goal.returns-then-level-ge4
@@ -34,9 +33,9 @@ returns-then-first_above-soft c =
 pub tables_of-hard-requires : goal.tables_of-hard-requires
 tables_of-hard-requires c =
     let level = c.if-level-ge4.false in record {
-        level_bound = level;
-        by_index = level_table_near _ _ level _ _ _ c.tables_of-tables.ensures;
-      }
+      level_bound = level;
+      by_index = level_table_near _ _ level _ _ _ c.tables_of-tables.ensures;
+    }
 
 pub way_of-way-requires : goal.way_of-way-requires
 way_of-way-requires c =
@@ -44,21 +43,19 @@ way_of-way-requires c =
 
 pub search_all-requires : goal.search_all-requires
 search_all-requires c =
-    let start = c in
-    let soft = start.args.soft.now in
+    let soft = c.args.soft.now in
     let level = c.if-level-ge4.false in
     let values : length soft ≤ first_above soft 7 = subst (λ (t : ℕ). length soft ≤ t) c.first_above.ensures c.if-first_above-soft.false in record {
-        limit_bound = subst⁻¹ (λ (l : ℕ). l ≤ 2000) c.way_of-way.ensures.limit_value.0 c.if-limit-gt2000.false;
-        by_index = λ k h. below_first soft 7 k (omega arith);
-        by_index_2 = (named start.args.supercode, start.args.level, level, c.tables_of-tables.ensures, λ with_list. c.tables_of-hard.ensures.2 (sym c.way_of-way.ensures.second_value ∙ with_list));
-      }
+      limit_bound = subst⁻¹ (λ (l : ℕ). l ≤ 2000) c.way_of-way.ensures.limit_value.0 c.if-limit-gt2000.false;
+      by_index = λ k h. below_first soft 7 k (omega arith);
+      by_index_2 = (named c.args.supercode, c.args.level, level, c.tables_of-tables.ensures, λ with_list. c.tables_of-hard.ensures.2 (sym c.way_of-way.ensures.second_value ∙ with_list));
+    }
 
 pub returns : goal.returns
 returns c =
-    let start = c in
-    let soft = start.args.soft.now in
+    let soft = c.args.soft.now in
     let level = c.if-level-ge4.false in
-    let in_range = allowed_is start.args.second start.args.threshold start.ranges.threshold c.threshold_allowed.ensures ∙ c.if-not-threshold_allowed.false in
+    let in_range = allowed_is c.args.second c.args.threshold c.ranges.threshold c.threshold_allowed.ensures ∙ c.if-not-threshold_allowed.false in
     let values : length soft ≤ first_above soft 7 = subst (λ (t : ℕ). length soft ≤ t) c.first_above.ensures c.if-first_above-soft.false in
-    let found = c.search_all.ensures (named start.args.supercode) start.args.level level c.tables_of-tables.ensures (λ with_list. c.tables_of-hard.ensures.2 (sym c.way_of-way.ensures.second_value ∙ with_list)) ∙ folded_by_its_way c.way_of-way.result _ _ (c.way_of-way.ensures.limit_value.2 ∙ handed_on start.args.second start.args.threshold start.ranges.threshold) c.way_of-way.ensures.limit_value.0 (named start.args.supercode) soft start.args.level in
+    let found = c.search_all.ensures (named c.args.supercode) c.args.level level c.tables_of-tables.ensures (λ with_list. c.tables_of-hard.ensures.2 (sym c.way_of-way.ensures.second_value ∙ with_list)) ∙ folded_by_its_way c.way_of-way.result _ _ (c.way_of-way.ensures.limit_value.2 ∙ handed_on c.args.second c.args.threshold c.ranges.threshold) c.way_of-way.ensures.limit_value.0 (named c.args.supercode) soft c.args.level in
     simp (lt-ltb _ _ level, le-leb _ _ c.if-limit-gt2000.false, in_range, le-leb _ _ values, found)

@@ -1,7 +1,6 @@
 -- `measured::measured_list_searches` meets its contract: the searches with list of two. Assumes nothing.
 use mathlib.Core.Bool.{true}
 use mathlib.Core.Path.{ap, ◌∙◌}
-use borrow.Author.Rules.{rules}
 use Rattle.trellis.specs.TwoWords.{Choice}
 use Rattle.list_of_two.proofs.Thresholds.{handed_on}
 use Rattle.measured.specs.Folds.{named, measured_answer}

@@ -1,14 +1,10 @@
 use mathlib.Core.Path.{◌≡◌, ap, ◌∙◌}
-use Prim.Native.Nat.{ℕ, ◌+◌, ◌-◌, ◌%◌, ◌≤◌, ◌<◌}
+use Prim.Native.Nat.{◌+◌, ◌-◌, ◌%◌, ◌≤◌, ◌<◌}
 use lib.ListN.{length, take, drop}
-use Rattle.trellis.specs.Demand.{Search}
-use Rattle.search.specs.Outcomes.{TablesFor}
-use Rattle.list_of_two.specs.Hard.{HardFor}
 use Rattle.list_of_two.specs.Ways.{choice_of}
-use Rattle.stack.specs.Places.{Room}
 use Rattle.search.proofs.ShortSearch.{column_searchable}
 use Rattle.measured.specs.Folds.{folded, searched_number}
-use Rattle.measured.proofs.Parts.{part_long, part_range, Folded, none_folded, one_more_folded, all_folded}
+use Rattle.measured.proofs.Parts.{part_long, part_range, none_folded, one_more_folded, all_folded}
 use native.Mathlib.Omega.{arith}
 use borrow.Author.Rules.{rules}
 use Rattle.measured.proofs.search_all.Goals as goal
@@ -22,11 +18,11 @@ search_by-found-requires c =
     let a = c.loop-a.a in
     let fits : a + 30 ≤ length soft = omega (arith, c.loop-a.invariant.0) in
     let some = c.requires.by_index_2 in record {
-        limit_bound = c.requires.limit_bound;
-        searchable30 = column_searchable some.0 some.1 some.2 (take (a + 30 - a) (drop a soft)) _ _ _ (part_long soft a fits) (part_range soft a fits c.requires.by_index) some.3;
-        by_index = (some.1, some.2, some.4);
-        room = c.loop-a.invariant.2;
-      }
+      limit_bound = c.requires.limit_bound;
+      searchable30 = column_searchable some.0 some.1 some.2 (take (a + 30 - a) (drop a soft)) _ _ _ (part_long soft a fits) (part_range soft a fits c.requires.by_index) some.3;
+      by_index = (some.1, some.2, some.4);
+      room = c.loop-a.invariant.2;
+    }
 
 pub loop-a-preserved : goal.loop-a-preserved
 loop-a-preserved c =

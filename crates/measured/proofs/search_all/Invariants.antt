@@ -1,17 +1,14 @@
 -- `measured::search_all` meets its contract. The loop's invariant: the columns before a are searched, and the arrays keep their places. Assumes nothing.
-use mathlib.Core.Path.{◌≡◌, ap, ◌∙◌}
-use Prim.Native.Nat.{ℕ, ◌+◌, ◌-◌, ◌%◌, ◌≤◌, ◌<◌}
-use lib.ListN.{length, take, drop}
+use mathlib.Core.Path.{◌≡◌}
+use Prim.Native.Nat.{ℕ, ◌-◌, ◌%◌, ◌≤◌, ◌<◌}
+use lib.ListN.{length}
 use Rattle.trellis.specs.Demand.{Search}
 use Rattle.search.specs.Outcomes.{TablesFor}
 use Rattle.list_of_two.specs.Hard.{HardFor}
 use Rattle.list_of_two.specs.Ways.{choice_of}
 use Rattle.stack.specs.Places.{Room}
-use Rattle.search.proofs.ShortSearch.{column_searchable}
-use Rattle.measured.specs.Folds.{folded, searched_number}
-use Rattle.measured.proofs.Parts.{part_long, part_range, Folded, none_folded, one_more_folded, all_folded}
-use native.Mathlib.Omega.{arith}
-use borrow.Author.Rules.{rules}
+use Rattle.measured.specs.Folds.{searched_number}
+use Rattle.measured.proofs.Parts.{Folded}
 use Rattle.measured.proofs.search_all.Given as goal
 
 abbrev pub invariant-loop-a : goal.invariant-loop-a

@@ -7,7 +7,6 @@ use lib.IntN.{ℤ}
 use Rattle.search.specs.declared.SearchOutcome.{SearchOutcome}
 use Rattle.search.specs.declared.SearchOutcome.TheVariants.{Found, Spent}
 use Rattle.measured.specs.Folds.{folded, bit_of, folded_within}
-use borrow.Author.Rules.{rules}
 use Rattle.measured.proofs.chip_searches.chip_folded.Goals as goal
 
 of_a_word : (o : SearchOutcome) (w c : ℕ) (z : ℤ) → o ≡ Found w c z → (taken : ℕ) (pushed : Bool) → bit_xor (folded o) (bit_of pushed * 2 ^ 47 % 2 ^ 64) ≡ folded_within o taken pushed
@@ -18,10 +17,8 @@ without_a_word o e taken pushed = subst⁻¹ (λ (o : SearchOutcome). bit_xor (b
 
 pub returns-in-Found : goal.returns-in-Found
 returns-in-Found c =
-    let told = c.enum_told-1.given in
-    ap₂ (λ (x b : ℕ). bit_xor x (b * 2 ^ 47 % 2 ^ 64)) c.folded.ensures c.bit_of-pushed.ensures ∙ of_a_word c.args.ended.found _ _ _ told.1 c.args.ended.count c.args.ended.pushed
+    ap₂ (λ (x b : ℕ). bit_xor x (b * 2 ^ 47 % 2 ^ 64)) c.folded.ensures c.bit_of-pushed.ensures ∙ of_a_word c.args.ended.found _ _ _ c.in-Found.is c.args.ended.count c.args.ended.pushed
 
 pub returns-in-Spent : goal.returns-in-Spent
 returns-in-Spent c =
-    let told = c.enum_told-in-Spent-1.given in
-    ap (λ (b : ℕ). bit_xor (bit_xor (c.args.ended.count * 2 ^ 1 % 2 ^ 64) b) (2 ^ 46)) c.bit_of-pushed.ensures ∙ without_a_word c.args.ended.found told.1 c.args.ended.count c.args.ended.pushed
+    ap (λ (b : ℕ). bit_xor (bit_xor (c.args.ended.count * 2 ^ 1 % 2 ^ 64) b) (2 ^ 46)) c.bit_of-pushed.ensures ∙ without_a_word c.args.ended.found c.in-Spent.is c.args.ended.count c.args.ended.pushed

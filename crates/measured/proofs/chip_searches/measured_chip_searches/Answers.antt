@@ -6,7 +6,6 @@ use borrow.Author.Tests.{le-ltb, lt-ltb, le-leb, lt-leb}
 use Rattle.questions.specs.Questions.{first_above}
 use Rattle.questions.proofs.FirstAbove.{below_first}
 use native.Mathlib.Omega.{arith}
-use borrow.Author.Rules.{rules}
 use Rattle.measured.proofs.chip_searches.measured_chip_searches.Goals as goal
 
 pub returns-then-level-ge4 : goal.returns-then-level-ge4
@@ -25,9 +24,9 @@ pub search_all-requires : goal.search_all-requires
 search_all-requires c =
     let soft = c.args.soft.now in
     let values : length soft ≤ first_above soft 7 = subst (λ (t : ℕ). length soft ≤ t) c.first_above.ensures c.if-first_above-soft.false in record {
-        level_bound = c.if-level-ge4.false;
-        by_index = λ k h. below_first soft 7 k (omega arith);
-      }
+      level_bound = c.if-level-ge4.false;
+      by_index = λ k h. below_first soft 7 k (omega arith);
+    }
 
 pub returns : goal.returns
 returns c =
