@@ -10,6 +10,6 @@ count_from-requires c =
 pub returns : goal.returns
 returns c =
     let args = c.args in record {
-        room = c.count_from.ensures.room;
-        value = c.count_from.ensures.value ∙ from_the_start args.level args.ones;
-      }
+      room = c.count_from.ensures.room;
+      value = c.count_from.ensures.value ∙ from_the_start args.level args.ones;
+    }
