@@ -18,10 +18,10 @@ remainder-requires c =
     let start = c in
     let room = level_room _ _ start.requires.level_bound c.degree_of-d.ensures in
     let all : d + (30 - d) ≡ 30 = omega arith in record {
-        k_bound = omega arith;
-        w_bound = subst (λ (t : ℕ). start.args.column < 2 ^ t) (sym all) start.requires.column_bound;
-        degree = level_degree _ _ _ start.requires.level_bound c.degree_of-d.ensures c.generator.ensures;
-      }
+      k_bound = omega arith;
+      w_bound = subst (λ (t : ℕ). start.args.column < 2 ^ t) (sym all) start.requires.column_bound;
+      degree = level_degree _ _ _ start.requires.level_bound c.degree_of-d.ensures c.generator.ensures;
+    }
 
 pub returns : goal.returns
 unfolding is_word

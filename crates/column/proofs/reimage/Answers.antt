@@ -19,9 +19,9 @@ pub level_word-w-requires : goal.level_word-w-requires
 level_word-w-requires c =
     let at_loop = c in
     let inv = at_loop.loop-i.invariant in record {
-        level_bound = inv.1;
-        symbol_bound = shown_lt short at_loop.args.column at_loop.loop-i.w at_loop.loop-i.i c.degree_of.result inv.1 inv.2 c.degree_of.ensures sound at_loop.requires.column_bound;
-      }
+      level_bound = inv.1;
+      symbol_bound = shown_lt short at_loop.args.column at_loop.loop-i.w at_loop.loop-i.i c.degree_of.result inv.1 inv.2 c.degree_of.ensures sound at_loop.requires.column_bound;
+    }
 
 pub loop-i-preserved : goal.loop-i-preserved
 loop-i-preserved c =

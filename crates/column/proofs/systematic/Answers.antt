@@ -9,10 +9,10 @@ use Rattle.column.proofs.systematic.Goals as goal
 pub remainder-requires : goal.remainder-requires
 remainder-requires c =
     let a = c.args in record {
-        k_bound = c.requires.k_bound;
-        w_bound = subst (λ (t : ℕ). t < 2 ^ (a.d + a.k)) (sym (shifted_exact a.k a.d a.symbol c.requires.k_bound c.requires.symbol_bound)) (shifted_lt a.k a.d a.symbol c.requires.symbol_bound);
-        degree = c.requires.degree;
-      }
+      k_bound = c.requires.k_bound;
+      w_bound = subst (λ (t : ℕ). t < 2 ^ (a.d + a.k)) (sym (shifted_exact a.k a.d a.symbol c.requires.k_bound c.requires.symbol_bound)) (shifted_lt a.k a.d a.symbol c.requires.symbol_bound);
+      degree = c.requires.degree;
+    }
 
 pub overflow_add-result : goal.overflow_add-result
 overflow_add-result c =

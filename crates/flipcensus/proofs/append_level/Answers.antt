@@ -39,6 +39,6 @@ pub returns : goal.returns
 returns c =
     let done = c.loop-ones.invariant in
     let all : c.loop-ones.ones ≡ 4 = omega (arith, done.0, c.loop-ones-test.false) in record {
-        room = done.1;
-        appended = as_text (ap (level_text c.args.level) all) (omega (arith, all)) done.2;
-      }
+      room = done.1;
+      appended = as_text (ap (level_text c.args.level) all) (omega (arith, all)) done.2;
+    }

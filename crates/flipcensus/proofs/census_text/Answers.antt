@@ -23,7 +23,7 @@ unfolding text_below
 loop-level-preserved c =
     let lines = c.append_level-end.ensures in
     let below = c.loop-level-test.true in
-    (omega (arith, below), lines.0, one_line_more text_below 532 c.loop-level.level refl c.loop-level.invariant.2 lines.1)
+    (omega (arith, below), lines.room, one_line_more text_below 532 c.loop-level.level refl c.loop-level.invariant.2 lines.appended)
 
 pub shape_of-out : goal.shape_of-out
 shape_of-out c = c.loop-level.invariant.2.size
@@ -33,6 +33,6 @@ returns c =
     let done = c.loop-level.invariant in
     let all : c.loop-level.level ≡ 4 = omega (arith, done.0, c.loop-level-test.false) in
     let text = as_text {b = 2128} (ap text_below all) (omega (arith, all)) done.2 in record {
-        prefix_len = counted text c.requires;
-        out_after = text.bytes;
-      }
+      prefix_len = counted text c.requires;
+      out_after = text.bytes;
+    }

@@ -11,27 +11,21 @@ use Rattle.readpage.proofs.output_of.Goals as goal
 pub page_text-requires : goal.page_text-requires
 page_text-requires c =
     let read = c.read_dump in
-    let start = c in
-    let told = c.enum_told-1.given.1 in
-    let dump = take start.args.n start.args.input.now in
-    (c.soft-2-1.given, soft_in_range dump _ _ _ read.ensures told, start.requires.2)
+    let dump = take c.args.n c.args.input.now in
+    (c.soft-2-1.given, soft_in_range dump _ _ _ read.ensures c.in-Done.is, c.requires.2)
 
 pub returns-in-Done : goal.returns-in-Done
 returns-in-Done c =
     let read = c.read_dump in
-    let start = c in
-    let told = c.enum_told-1.given.1 in
     let text = c.page_text.ensures in record {
-      prefix_len = counted text start.requires.2;
-      printed_for = printed_for start.args.input.now start.args.n start.requires.0 (text.bytes ∙ output_read _ _ _ read.ensures told);
+      prefix_len = counted text c.requires.2;
+      printed_for = printed_for c.args.input.now c.args.n c.requires.0 (text.bytes ∙ output_read _ _ _ read.ensures c.in-Done.is);
     }
 
 pub returns-in-Refused : goal.returns-in-Refused
 returns-in-Refused c =
     let read = c.read_dump in
-    let start = c in
-    let told = c.number-1.given.1 in
     let text = c.append_refused.ensures in record {
-      prefix_len = counted text (omega (arith, start.requires.2));
-      printed_for = printed_for start.args.input.now start.args.n start.requires.0 (text.bytes ∙ output_refused _ _ _ _ _ read.ensures told);
+      prefix_len = counted text (omega (arith, c.requires.2));
+      printed_for = printed_for c.args.input.now c.args.n c.requires.0 (text.bytes ∙ output_refused _ _ _ _ _ read.ensures c.in-Refused.is);
     }

@@ -18,7 +18,7 @@ pub returns-then-page-ne0 : goal.returns-then-page-ne0
 returns-then-page-ne0 c =
     let page = c.decode_page-page in
     let some = c.if-page-ne0.true in
-    let text = text_of_refused supercode c.args.soft.now _ page.new.1.1.0 page.result page.ensures c.requires.0 refl c.requires.1 some in
+    let text = text_of_refused supercode c.args.soft.now _ page.new.«data» page.result page.ensures c.requires.0 refl c.requires.1 some in
     as_text text (omega arith) c.append_refused.ensures
 
 pub append_levels-bytes-requires : goal.append_levels-bytes-requires
@@ -37,5 +37,5 @@ unfolding page_text
 returns c =
     let none = c.if-page-ne0.false in
     let page = c.decode_page-page in
-    let text = text_of_answered supercode c.args.soft.now _ page.new.1.1.0 page.result page.ensures c.requires.0 refl c.requires.1 none in
+    let text = text_of_answered supercode c.args.soft.now _ page.new.«data» page.result page.ensures c.requires.0 refl c.requires.1 none in
     as_text text (omega arith) (then (then c.append_ok-levels.ensures c.append_levels-bytes.ensures) c.append_data.ensures)
