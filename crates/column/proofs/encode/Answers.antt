@@ -1,5 +1,4 @@
 -- `column::encode` meets its contract: the sum of four level words, the highest first. Assumes nothing.
-use borrow.Author.Rules.{rules}
 use Rattle.column.proofs.Short.{column_is}
 use Rattle.column.proofs.encode.Goals as goal
 

@@ -1,6 +1,5 @@
 -- `column::level_word` meets its contract: the systematic word by the level's generator. Assumes nothing.
 use native.Mathlib.Omega.{arith}
-use borrow.Author.Rules.{rules}
 use Rattle.column.proofs.Short.{level_degree, level_room, level_word_is}
 use Rattle.column.proofs.level_word.Goals as goal
 

@@ -1,8 +1,7 @@
-use mathlib.Core.Path.{◌≡◌, refl}
-use Prim.Native.Nat.{◌+◌, ◌^◌, ◌≤◌, ◌<◌}
+use mathlib.Core.Path.{refl}
+use Prim.Native.Nat.{◌<◌}
 use native.Mathlib.Omega.{arith}
 use borrow.Author.Rules.{rules}
-use Rattle.poly.specs.Polynomial.{remainder}
 use Rattle.column.proofs.Division.{highest_digit, divide_turn, divide_end}
 use Rattle.column.proofs.remainder.Goals as goal
 

@@ -1,10 +1,7 @@
 -- `column::remainder` meets its contract. The loop's invariant: what is left has the remainder of w, and no digit at d + i or above. Assumes nothing.
-use mathlib.Core.Path.{◌≡◌, refl}
+use mathlib.Core.Path.{◌≡◌}
 use Prim.Native.Nat.{◌+◌, ◌^◌, ◌≤◌, ◌<◌}
-use native.Mathlib.Omega.{arith}
-use borrow.Author.Rules.{rules}
 use Rattle.poly.specs.Polynomial.{remainder}
-use Rattle.column.proofs.Division.{highest_digit, divide_turn, divide_end}
 use Rattle.column.proofs.remainder.Given as goal
 
 abbrev pub invariant-loop-i : goal.invariant-loop-i

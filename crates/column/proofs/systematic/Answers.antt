@@ -1,7 +1,6 @@
 -- `column::systematic` meets its contract: the shift loses nothing, and the remainder fits below it. Assumes nothing.
 use mathlib.Core.Path.{sym, subst}
 use Prim.Native.Nat.{ℕ, ◌+◌, ◌^◌, ◌<◌}
-use borrow.Author.Rules.{rules}
 use Rattle.poly.proofs.Remainder.{remainder_lt}
 use Rattle.column.proofs.Division.{shifted_lt, shifted_exact, systematic_fits, systematic_is}
 use Rattle.column.proofs.systematic.Goals as goal

@@ -1,11 +1,7 @@
 use mathlib.Core.Path.{◌≡◌, sym, ap}
 use mathlib.Core.List.{◌++◌}
-use Prim.Native.Nat.{◌-◌, ◌*◌, ◌≤◌}
 use native.Mathlib.Omega.{arith}
-use borrow.Author.Rules.{rules}
-use Rattle.stack.specs.Places.{Room}
 use Rattle.census.specs.declared.Totals.{Totals}
-use Rattle.listing.specs.Text.{Appended}
 use Rattle.listing.specs.Lines.{census_line}
 use Rattle.listing.proofs.Appended.{appended_none, as_text, one_line_more}
 use Rattle.flipcensus.specs.Text.{line_of, level_text}

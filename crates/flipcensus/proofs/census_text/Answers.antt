@@ -1,9 +1,5 @@
 use mathlib.Core.Path.{◌≡◌, refl, ap}
-use Prim.Native.Nat.{◌-◌, ◌*◌, ◌≤◌}
 use native.Mathlib.Omega.{arith}
-use borrow.Author.Rules.{rules}
-use Rattle.stack.specs.Places.{Room}
-use Rattle.listing.specs.Text.{Appended}
 use Rattle.listing.proofs.Appended.{appended_none, as_text, one_line_more, counted}
 use Rattle.flipcensus.specs.Text.{text_below}
 use Rattle.flipcensus.proofs.census_text.Goals as goal

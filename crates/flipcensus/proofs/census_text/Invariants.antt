@@ -1,11 +1,7 @@
 -- `flipcensus::census_text` meets its contract: the lines of the levels passed stand one behind the other. Assumes nothing.
-use mathlib.Core.Path.{◌≡◌, refl, ap}
 use Prim.Native.Nat.{◌-◌, ◌*◌, ◌≤◌}
-use native.Mathlib.Omega.{arith}
-use borrow.Author.Rules.{rules}
 use Rattle.stack.specs.Places.{Room}
 use Rattle.listing.specs.Text.{Appended}
-use Rattle.listing.proofs.Appended.{appended_none, as_text, one_line_more, counted}
 use Rattle.flipcensus.specs.Text.{text_below}
 use Rattle.flipcensus.proofs.census_text.Given as goal
 

@@ -1,7 +1,6 @@
 -- `readpage::output_of` meets its contract, by what reading the dump gave. Assumes nothing.
 use mathlib.Core.Path.{◌∙◌}
 use native.Mathlib.Omega.{arith}
-use borrow.Author.Rules.{rules}
 use lib.ListN.{take}
 use Rattle.listing.proofs.Appended.{counted}
 use Rattle.readpage.proofs.Input.{printed_for}

@@ -1,7 +1,6 @@
 -- `readpage::page_text` meets its contract: the refusal's line, or the lines one behind the other, are the text of page decoding. Assumes nothing.
 use mathlib.Core.Path.{refl}
 use native.Mathlib.Omega.{arith}
-use borrow.Author.Rules.{rules}
 use Rattle.trellis.specs.Demand.{supercode}
 use Rattle.listing.specs.Lines.{page_text}
 use Rattle.listing.proofs.Appended.{then, as_text, room_left}

@@ -1,6 +1,5 @@
 -- `station::returned_number` meets its contract: the sum fits, and is the definition's. Assumes nothing.
 use mathlib.Core.Path.{refl}
-use borrow.Author.Rules.{rules}
 use Rattle.station.proofs.returned_number.Goals as goal
 
 pub returns : goal.returns

@@ -5,7 +5,6 @@ use Rattle.questions.specs.Outcome.{number, place}
 use Rattle.station.specs.Returned.{returned}
 use Rattle.station.proofs.Places.{SmallOutcome}
 use native.Mathlib.Omega.{arith}
-use borrow.Author.Rules.{rules}
 use Rattle.station.proofs.returned_outcome.Goals as goal
 
 pub returned_number-requires : goal.returned_number-requires

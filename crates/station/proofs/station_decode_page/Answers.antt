@@ -1,5 +1,4 @@
 -- `station::station_decode_page` meets its contract: it is the entry with a limit, at the default. Assumes nothing.
-use borrow.Author.Rules.{rules}
 use Rattle.station.proofs.station_decode_page.Goals as goal
 
 pub returns : goal.returns

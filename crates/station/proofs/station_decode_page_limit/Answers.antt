@@ -4,7 +4,6 @@ use Rattle.page.specs.Outcomes.{data_buffer}
 use Rattle.station.proofs.Asked.{number_is_small}
 use Rattle.station.proofs.PageReturns.{refused_by_length, report_may_be_written, returned_by_the_call}
 use native.Mathlib.Omega.{arith}
-use borrow.Author.Rules.{rules}
 use Rattle.station.proofs.station_decode_page_limit.Goals as goal
 
 pub returned_number-requires : goal.returned_number-requires

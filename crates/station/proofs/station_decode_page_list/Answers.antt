@@ -7,7 +7,6 @@ use Rattle.station.proofs.PageReturns.{refused_by_length, report_may_be_written,
 use Rattle.trellis.specs.Demand.{supercode}
 use Rattle.store_pages.proofs.Asked.{as_handed_on}
 use native.Mathlib.Omega.{arith}
-use borrow.Author.Rules.{rules}
 use Rattle.station.proofs.station_decode_page_list.Goals as goal
 
 pub returned_number-requires : goal.returned_number-requires

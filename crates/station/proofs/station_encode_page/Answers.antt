@@ -4,7 +4,6 @@ use Rattle.questions.specs.declared.Outcome.{Outcome}
 use Rattle.questions.specs.Outcome.{number, place}
 use Rattle.station.specs.Returned.{returned}
 use Rattle.station.proofs.Places.{SmallOutcome, encode_small}
-use borrow.Author.Rules.{rules}
 use Rattle.station.proofs.station_encode_page.Goals as goal
 
 pub returned_outcome-requires : goal.returned_outcome-requires

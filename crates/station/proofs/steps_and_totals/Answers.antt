@@ -1,5 +1,4 @@
 -- `station::steps_and_totals` meets its contract: the four bytes of the steps, and the totals one by one. Assumes nothing.
-use borrow.Author.Rules.{rules}
 use Rattle.station.proofs.Bytes.{four_bytes}
 use Rattle.station.proofs.steps_and_totals.Goals as goal
 

@@ -4,7 +4,6 @@ use Rattle.packing.specs.Packing.{sixteen_bits}
 use mir.Facts.{to_z-of_z}
 use Rattle.concatenated.specs.Data.{digits}
 use Rattle.station.proofs.Bytes.{two_bytes_written}
-use borrow.Author.Rules.{rules}
 use Rattle.station.proofs.write_low.Goals as goal
 
 pub returns : goal.returns

@@ -1,8 +1,5 @@
 use mathlib.Core.Path.{sym, ◌∙◌}
-use Prim.Native.Nat.{◌-◌}
-use Rattle.concatenated.proofs.Filling.{Front, front_none, front_more, front_all}
-use borrow.Author.Rules.{rules}
-use Rattle.concatenated.specs.Data.{digits}
+use Rattle.concatenated.proofs.Filling.{front_none, front_more, front_all}
 use Rattle.concatenated.proofs.Digits.{digits_length}
 use Rattle.station.proofs.Bytes.{byte_at}
 use Rattle.station.proofs.write_mark.Goals as goal

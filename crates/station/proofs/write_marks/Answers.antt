@@ -1,8 +1,6 @@
-use Prim.Native.Nat.{◌-◌}
 use mathlib.Core.Path.{sym, ◌∙◌}
 use native.Mathlib.Omega.{arith}
-use borrow.Author.Rules.{rules}
-use Rattle.station.proofs.Marking.{Marking, marking_none, marking_more, marking_all}
+use Rattle.station.proofs.Marking.{marking_none, marking_more, marking_all}
 use Rattle.station.proofs.write_marks.Goals as goal
 
 pub loop-level-init : goal.loop-level-init

@@ -1,9 +1,6 @@
 -- `station::write_marks` meets its contract: the marks of the levels passed stand behind the first 12 bytes. Assumes nothing.
 use Prim.Native.Nat.{◌-◌}
-use mathlib.Core.Path.{sym, ◌∙◌}
-use native.Mathlib.Omega.{arith}
-use borrow.Author.Rules.{rules}
-use Rattle.station.proofs.Marking.{Marking, marking_none, marking_more, marking_all}
+use Rattle.station.proofs.Marking.{Marking}
 use Rattle.station.proofs.write_marks.Given as goal
 
 abbrev pub invariant-loop-level : goal.invariant-loop-level
