@@ -2,8 +2,8 @@
 use mathlib.Core.Bool.{true}
 use mathlib.Core.List.{List}
 use mathlib.Core.Path.{◌≡◌, refl, sym, ap, ◌∙◌}
-use Prim.Native.Nat.{ℕ}
-use borrow.Author.Tests.{eq-eqb, eqb-true, lt-ltb, ltb-true, le-leb, leb-true}
+use Prim.Native.Nat.{ℕ, ◌≤◌, ◌<◌}
+use borrow.Author.Tests.{eq-eqb, eqb-true, lt-ltb, ltb-true, le-leb, leb-true, lt-leb}
 use lib.Dec.{eqb, ltb, leb}
 use lib.ListN.{length}
 use Rattle.trellis.specs.TwoWords.{Choice, threshold_allowed}
@@ -16,6 +16,13 @@ use Rattle.searches.specs.Searches.{Allowed, ask_search}
 use Rattle.searches.proofs.Outcomes.{asked_range}
 
 module _ (choice : Choice) (level : ℕ) (soft : List ℕ) (limit : ℕ) where
+  -- a limit that is not 1..2,000 is refused by 4
+  pub limit_too_low : length soft ≡ 30 → level < 4 → limit < 1 → Refused 4 0 ≡ ask_search choice level soft limit Refused Done
+  limit_too_low full exists low = simp (eq-eqb _ _ full, lt-ltb _ _ exists, lt-leb _ _ low)
+
+  pub limit_too_high : length soft ≡ 30 → level < 4 → 1 ≤ limit → 2000 < limit → Refused 4 0 ≡ ask_search choice level soft limit Refused Done
+  limit_too_high full exists some high = simp (eq-eqb _ _ full, lt-ltb _ _ exists, le-leb _ _ some, lt-leb _ _ high)
+
   -- all are answered yes
   pub all_yes : threshold_allowed choice ≡ true → Allowed level soft limit → {A : Type 0} (refusal : ℕ → ℕ → A) (next : A) → ask_search choice level soft limit refusal next ≡ next
   all_yes in_range allowed refusal next =

@@ -24,6 +24,7 @@ pub enum SearchAnswer {
 }
 
 // The questions of a column search before 9, in their order, with list of two where `second` says so: the first no, or Done.
+#[tactic(auto, using(crate::proofs::Questions::limit_too_low, crate::proofs::Questions::limit_too_high))]
 pub fn asked(level: u64, soft: &[u8], limit: u64, second: bool, threshold: i64) -> Outcome
     ensures { result ≡ ask_search (chosen second threshold) level soft.now limit Refused Done }
 {

@@ -2,9 +2,9 @@
 use mathlib.Core.Bool.{Bool, true}
 use mathlib.Core.List.{List}
 use mathlib.Core.Path.{◌≡◌, refl, sym, ap, ap₂, ◌∙◌, subst}
-use Prim.Native.Nat.{ℕ, ◌≤◌}
+use Prim.Native.Nat.{ℕ, ◌≤◌, ◌<◌}
 use native.Mathlib.Omega.{arith}
-use borrow.Author.Tests.{eq-eqb, eqb-true, le-leb, leb-true}
+use borrow.Author.Tests.{eq-eqb, eqb-true, le-leb, leb-true, lt-leb}
 use lib.Dec.{eqb, leb}
 use lib.IntN.{ℤ}
 use lib.ListN.{length}
@@ -37,6 +37,13 @@ abbrev pub Refusals : {A : Type 0} → (A → Type 0) → (ℕ → ℕ → A) �
 Refusals P refusal = (n p : ℕ) → 1 ≤ n → n ≤ 11 → p ≤ 1890 → P (refusal n p)
 
 module _ (choice : Choice) (soft : List ℕ) (limit : ℕ) (room : Bool) where
+  -- a limit that is not 1..2,000 is refused by 4
+  pub limit_too_low : length soft ≡ 1890 → room ≡ true → limit < 1 → Refused 4 0 ≡ ask_page choice soft limit room Refused Done
+  limit_too_low long has_room low = simp (eq-eqb _ _ long, has_room, lt-leb _ _ low)
+
+  pub limit_too_high : length soft ≡ 1890 → room ≡ true → 1 ≤ limit → 2000 < limit → Refused 4 0 ≡ ask_page choice soft limit room Refused Done
+  limit_too_high long has_room some high = simp (eq-eqb _ _ long, has_room, le-leb _ _ some, lt-leb _ _ high)
+
   -- what holds of every refusal, and of what follows with a limit up to 2000, holds whatever is answered
   pub every_way : {A : Type 0} (P : A → Type 0) (refusal : ℕ → ℕ → A) (next : A) → Refusals P refusal → (limit ≤ 2000 → P next) → P (ask_page choice soft limit room refusal next)
   every_way P refusal next r n =

@@ -32,6 +32,7 @@ use Rattle.questions.specs.declared.Outcome.{Outcome}
 use Rattle.questions.specs.declared.Outcome.TheVariants.{Done, Refused}
 use Rattle.questions.proofs.AllInRange.{no_value_above}
 use Rattle.questions.proofs.EitherWay.{asked_done, asked_further, asked_last}
+use Rattle.questions.proofs.Filled.{refused}
 use Rattle.questions.proofs.FirstAbove.{below_first}
 use Rattle.store_pages.specs.Committing.{no_word_in, commit_answer, held_bytes, Committed, FourWords, NoWordAt, EncodesAgain}
 
@@ -41,6 +42,13 @@ symbols_are_a_word symbols long good = (long, λ j h. let small : get_or symbols
 
 word_is_in_range : (symbols : List ℕ) → WordOf 64 252 symbols → leb 252 (first_above symbols 63) ≡ true
 word_is_in_range symbols word = no_value_above symbols 252 63 word.0 (λ k h. omega (arith, word.1 k h))
+
+-- a row that is no word is refused by 14
+pub bad_row_is_refused : (symbols old : List ℕ) (level : ℕ) → length symbols ≡ 252 → length old ≡ 150 → 252 ≤ first_above symbols 63 → level ≡ no_word_in symbols → level < 4 → Committed symbols old (Refused 14 level) old
+bad_row_is_refused symbols old level long room good is bad =
+    let lowest : no_word_in symbols < 4 = subst (λ (t : ℕ). t < 4) is bad in
+    let due : commit_answer symbols old ≡ Refused 14 (no_word_in symbols) = simp (eq-eqb _ _ long, eq-eqb _ _ room, le-leb _ _ good, lt-leb _ _ lowest) in
+    refused (due ∙ ap (Refused 14) (sym is))
 
 module _ (symbols : List ℕ) where
   abbrev rs : List (List ℕ)

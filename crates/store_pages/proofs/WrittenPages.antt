@@ -3,6 +3,7 @@ use mathlib.Core.Bool.{true}
 use mathlib.Core.List.{List}
 use mathlib.Core.Path.{◌≡◌, sym, ap, ◌∙◌}
 use Prim.Native.Nat.{ℕ, ◌≤◌}
+use borrow.Author.Tests.{eq-eqb, ne_eqb}
 use lib.ListN.{length}
 use Rattle.column.specs.Shape.{short}
 use Rattle.dump.specs.Accepted.{Values}
@@ -18,9 +19,16 @@ use Rattle.page.specs.declared.PageOutcome.{PageOutcome}
 use Rattle.concatenated.proofs.Digits.{Below}
 use Rattle.concatenated.proofs.OuterJoint.{outer_laws}
 use Rattle.concatenated.proofs.Short.{written_page_comes_back}
-use Rattle.store_pages.specs.Pages.{FilledBy}
+use Rattle.questions.specs.Outcome.{Filled}
+use Rattle.questions.specs.declared.Outcome.TheVariants.{Refused}
+use Rattle.questions.proofs.Filled.{refused}
+use Rattle.store_pages.specs.Pages.{FilledBy, encode_page_answer}
 use Rattle.store_pages.specs.WrittenPages.{CameBack}
 use Rattle.store_pages.proofs.Asked.{accepted_call}
+
+-- a written page has 252 bytes: for another length it is refused by 2
+pub no_room_for_the_page : (bytes out made : List ℕ) → length bytes ≡ 150 → (length out ≡ 252 → ⊥) → Filled (encode_page_answer bytes out) made out (Refused 2 0) out
+no_room_for_the_page bytes out made long none = refused (simp (eq-eqb _ _ long, ne_eqb _ _ none))
 
 module _ (soft : List ℕ) (values_soft : Values 1890 7 soft) (limit : ℕ) (some : 1 ≤ limit) (at_most : limit ≤ 2000) (choice : Choice) (in_range : threshold_allowed choice ≡ true) (old : List ℕ) (room : length old ≡ 150) where
   -- what `encode_page` wrote, read within reach at each level by whatever reader the call decodes by, comes back from the call

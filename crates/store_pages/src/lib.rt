@@ -23,6 +23,7 @@ use questions::Outcome;
 pub const DEFAULT_LIMIT: u64 = 200;
 
 // The written page of 150 bytes of data. Refused by 1 and 2; `out` is then as it was.
+#[tactic(auto, using(crate::proofs::WrittenPages::no_room_for_the_page))]
 pub fn encode_page(data: &[u8], out: &mut [u8]) -> Outcome
     ensures { Filled (encode_page_answer «data».now out.old) (written_page short_page short_encoder «data».now) out.old result out.new }
 {
@@ -37,6 +38,7 @@ pub fn encode_page(data: &[u8], out: &mut [u8]) -> Outcome
 }
 
 // The questions of page decoding and of asking, in their order; `room` tells whether the output has its places.
+#[tactic(auto, using(crate::proofs::Asked::limit_too_low, crate::proofs::Asked::limit_too_high))]
 pub fn page_questions(soft: &[u8], limit: u64, second: bool, threshold: i64, room: bool) -> Outcome
     ensures { result ≡ ask_page (chosen second threshold) soft.now limit room Refused Done }
 {
@@ -171,6 +173,7 @@ pub fn ask_page_whole_list(
 }
 
 // Writes the 150 bytes that the rows of 252 symbols hold, whoever filled them. Refused by 1, 2, 5 and 14, whose place is the lowest level whose row is no word of its outer code; `data` is then as it was.
+#[tactic(auto, using(crate::proofs::Committing::bad_row_is_refused))]
 pub fn commit_page(symbols: &[u8], data: &mut [u8]) -> Outcome
     ensures { Committed symbols.now «data».old result «data».new }
 {

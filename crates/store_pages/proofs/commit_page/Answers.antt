@@ -28,16 +28,6 @@ returns-then-above-lt252 c =
 pub lowest_no_word-level-requires : goal.lowest_no_word-level-requires
 lowest_no_word-level-requires c = symbols_are_a_word c.args.symbols.now c.if-symbols-ne252.false (omega (arith, c.first_above-above.ensures, c.if-above-lt252.false))
 
-pub returns-then-level-lt4 : goal.returns-then-level-lt4
-returns-then-level-lt4 c =
-    let place = c.lowest_no_word-level.ensures in
-    let symbols = c.args.symbols.now in
-    let out = c.args.«data».now in
-    let good : 252 ≤ first_above symbols 63 = omega (arith, c.first_above-above.ensures, c.if-above-lt252.false) in
-    let bad : no_word_in symbols < 4 = omega (arith, place, c.if-level-lt4.true) in
-    let due : commit_answer symbols out ≡ Refused 14 (no_word_in symbols) = simp (eq-eqb _ _ c.if-symbols-ne252.false, eq-eqb _ _ c.if-data-ne150.false, le-leb _ _ good, lt-leb _ _ bad) in
-    refused (due ∙ ap (Refused 14) (sym place))
-
 pub pack-requires : goal.pack-requires
 pack-requires c = (symbols_are_a_word c.args.symbols.now c.if-symbols-ne252.false (omega (arith, c.first_above-above.ensures, c.if-above-lt252.false)), c.if-data-ne150.false)
 
@@ -45,5 +35,5 @@ pub returns : goal.returns
 returns c =
     let symbols = c.args.symbols.now in
     let good : 252 ≤ first_above symbols 63 = omega (arith, c.first_above-above.ensures, c.if-above-lt252.false) in
-    let words : 4 ≤ no_word_in symbols = omega (arith, c.lowest_no_word-level.ensures, c.if-level-lt4.false) in
+    let words : 4 ≤ no_word_in symbols = omega (arith, c.lowest_no_word-level.ensures) in
     done (simp (eq-eqb _ _ c.if-symbols-ne252.false, eq-eqb _ _ c.if-data-ne150.false, le-leb _ _ good, le-leb _ _ words)) c.pack.ensures

@@ -18,8 +18,8 @@ up_to_the_values : (r : After-first_above-bad) → let a = r.args in
     (b : Bool) → leb 1890 (first_above a.soft.now 7) ≡ b → ask b (Refused 5 (first_above a.soft.now 7)) Done ≡ ask_page (chosen a.second a.threshold) a.soft.now a.limit a.room Refused Done
 up_to_the_values r b values =
     let args = r.args in
-    let some : 1 ≤ args.limit = omega (arith, r.if-limit-lt1.false) in
-    let most : args.limit ≤ 2000 = omega (arith, r.if-limit-gt2000.false) in
+    let some : 1 ≤ args.limit = omega arith in
+    let most : args.limit ≤ 2000 = omega arith in
     let in_range = allowed_is args.second args.threshold r.ranges.threshold r.threshold_allowed.ensures ∙ r.if-not-threshold_allowed.false in
     simp (eq-eqb _ _ r.if-soft-ne1890.false, r.if-not-room.false, le-leb _ _ some, le-leb _ _ most, in_range, values)
 
@@ -29,23 +29,11 @@ returns-then-soft-ne1890 c = simp (ne_eqb _ _ c.if-soft-ne1890.true)
 pub returns-then-not-room : goal.returns-then-not-room
 returns-then-not-room c = simp (eq-eqb _ _ c.if-soft-ne1890.false, c.if-not-room.true)
 
-pub returns-then-limit-lt1 : goal.returns-then-limit-lt1
-returns-then-limit-lt1 c =
-    let low : c.args.limit < 1 = omega (arith, c.if-limit-lt1.true) in
-    simp (eq-eqb _ _ c.if-soft-ne1890.false, c.if-not-room.false, lt-leb _ _ low)
-
-pub returns-then-limit-gt2000 : goal.returns-then-limit-gt2000
-returns-then-limit-gt2000 c =
-    let args = c.args in
-    let some : 1 ≤ args.limit = omega (arith, c.if-limit-lt1.false) in
-    let high : 2000 < args.limit = omega (arith, c.if-limit-gt2000.true) in
-    simp (eq-eqb _ _ c.if-soft-ne1890.false, c.if-not-room.false, le-leb _ _ some, lt-leb _ _ high)
-
 pub returns-then-not-threshold_allowed : goal.returns-then-not-threshold_allowed
 returns-then-not-threshold_allowed c =
     let args = c.args in
-    let some : 1 ≤ args.limit = omega (arith, c.if-limit-lt1.false) in
-    let most : args.limit ≤ 2000 = omega (arith, c.if-limit-gt2000.false) in
+    let some : 1 ≤ args.limit = omega arith in
+    let most : args.limit ≤ 2000 = omega arith in
     let no = allowed_is args.second args.threshold c.ranges.threshold c.threshold_allowed.ensures ∙ c.if-not-threshold_allowed.true in
     simp (eq-eqb _ _ c.if-soft-ne1890.false, c.if-not-room.false, le-leb _ _ some, le-leb _ _ most, no)
 
