@@ -29,7 +29,7 @@
 
    STACK. As measured on x86-64, the call takes some 24 KB, whatever the lengths are.
 
-   The archive is libstore_batches.a, made by `rt staticlib store_batches`. It needs memset of the C library, and nothing else. */
+   The archive is libstore_batches.a, made by `tests/make-archives store_batches_c`. It needs memset of the C library, and nothing else. */
 #ifndef BATCH_H
 #define BATCH_H
 

@@ -63,7 +63,7 @@
 
    STACK. As measured on x86-64, page decoding and asking take some 28 KB and the others up to 4 KB.
 
-   The archive is libstation.a, made by `rt staticlib station`. It needs memcpy and memset of the C library, and nothing else. */
+   The archive is libstation.a, made by `tests/make-archives station`. It needs memcpy and memset of the C library, and nothing else. */
 #ifndef STATION_H
 #define STATION_H
 

@@ -1,4 +1,4 @@
-/* The test entries of crates/entries, crates/chip_entries, crates/held_entries and crates/checker_entries, as the archives made by `rt staticlib` have them. */
+/* The test entries of crates/entries_c, crates/chip_entries, crates/held_entries and crates/checker_entries, as the archives that tests/make-archives builds have them. */
 #ifndef ENTRIES_H
 #define ENTRIES_H
 #include <stdbool.h>

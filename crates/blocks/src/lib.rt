@@ -160,6 +160,18 @@ pub fn check_right(block: &[u8]) -> bool
     high * 256 + low == check_of(block) as u32
 }
 
+// Copies a slice into one of its length, a byte after the other: the station's archive is to need no more of the C library than it says.
+fn copy(from: &[u8], to: &mut [u8])
+    requires { length to.old ≡ length from.now }
+    ensures { to.new ≡ from.now }
+{
+    let mut k = 0;
+    while k < from.len() {
+        to[k] = from[k];
+        k += 1;
+    }
+}
+
 // Reads the soft values of a dump, block by block.
 pub fn read(dump: &[u8], out: &mut [u8])
     requires { (length dump.now ≡ 2048) × (length out.old ≡ 1890) }
@@ -172,7 +184,7 @@ pub fn read(dump: &[u8], out: &mut [u8])
         let end = start + n;
         let at = b * 480;
         let to = at + n;
-        out[at..to].copy_from_slice(&dump[start..end]);
+        copy(&dump[start..end], &mut out[at..to]);
         b += 1;
     }
 }

@@ -17,18 +17,18 @@ loop-b-preserved c =
     let counted = c.values_of-n in
     let n = counted.result in
     let count : n ≡ values_of b = counted.ensures in
-    let made = c.copy_from_slice in
+    let made = c.copy in
     let size : b * 512 + 16 + n - (b * 512 + 16) ≡ n = omega arith in
-    let part : made.new.self ≡ take n (drop (b * 480) (soft_of dump)) =
-    made.ensures.after ∙ ap (λ (m : ℕ). take m (drop (b * 512 + 16) dump)) size ∙ values_of_block dump b n (omega arith) (omega arith) (omega arith) in
+    let part : made.new.to ≡ take n (drop (b * 480) (soft_of dump)) =
+    made.ensures ∙ ap (λ (m : ℕ). take m (drop (b * 512 + 16) dump)) size ∙ values_of_block dump b n (omega arith) (omega arith) (omega arith) in
     let room : b * 480 + n ≤ length out = omega arith in
     let long : b * 480 + n ≤ length (soft_of dump) = omega (arith, soft_length dump) in
     let now_at : values_before b ≡ b * 480 = omega arith in
     let then_at : values_before (b + 1) ≡ b * 480 + n = omega arith in
     let front : take (b * 480) out ≡ take (b * 480) (soft_of dump) = rw now_at at inv.2 in (
       search rules,
-      put_length out (soft_of dump) made.new.self (b * 480) n room long part ∙ inv.1,
-      rw then_at (put_more out (soft_of dump) made.new.self (b * 480) n room long part front),
+      put_length out (soft_of dump) made.new.to (b * 480) n room long part ∙ inv.1,
+      rw then_at (put_more out (soft_of dump) made.new.to (b * 480) n room long part front),
     )
 
 pub returns : goal.returns
