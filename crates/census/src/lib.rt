@@ -69,6 +69,7 @@ fn add(a: Totals, b: Totals) -> Totals
 }
 
 // The totals of the columns that begin as the given one and have so many flips from a position on, where the given one has none.
+#[tactic(auto, using(crate::proofs::Behind::by_the_next))]
 fn count_from(
     sums: &mut [i16; 2002],
     lens: &mut [u8; 2002],

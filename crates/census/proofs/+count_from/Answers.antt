@@ -1,7 +1,6 @@
-use mathlib.Core.Path.{ap₂, ◌∙◌}
+use mathlib.Core.Path.{◌∙◌}
 use native.Mathlib.Omega.{arith}
-use Rattle.census.specs.Census.{together}
-use Rattle.census.proofs.Behind.{at_most_2^30, none_left, no_room, by_the_next}
+use Rattle.census.proofs.Behind.{at_most_2^30, none_left, no_room}
 use Rattle.census.proofs.+count_from.Goals as goal
 
 pub returns-then-ones-eq0-clause-value : goal.returns-then-ones-eq0-clause-value
@@ -13,10 +12,5 @@ add-requires t c =
     let second = at_most_2^30 _ _ _ _ (omega arith) c.count_from-without.ensures.value in
     (omega (arith, first.0, second.0), omega (arith, first.1, second.1), omega (arith, first.2, second.2))
 
-pub returns-then-from-lt30-clause-value : goal.returns-then-from-lt30-clause-value
-returns-then-from-lt30-clause-value t c =
-    c.add.ensures ∙ ap₂ together c.count_from-with.ensures.value c.count_from-without.ensures.value
-    ∙ by_the_next c.args.level c.args.column c.args.from c.requires.2 (omega (arith, c.if-from-lt30.true)) c.args.ones c.if-ones-eq0.false
-
 pub returns-clause-value : goal.returns-clause-value
-returns-clause-value t c = no_room c.args.level c.args.column c.args.from c.requires.2 c.args.ones c.if-ones-eq0.false (omega (arith, c.if-from-lt30.false))
+returns-clause-value t c = no_room c.args.level c.args.column c.args.from c.requires.2 c.args.ones c.if-ones-eq0.false (omega arith)
