@@ -1,7 +1,7 @@
 // A batch of columns: 02, point 2. Each job is searched as the single supercode call searches its column, in list order.
 //
 // The argument. A job is asked and searched by the functions of the single call, so its answer is that call's. The search asks nothing of what its arrays hold, so one set of them serves the whole list.
-// The loop over the list only hands each job on and puts it back: what is proved of it by hand is no more than that.
+// The loop over the list only hands each job on and puts it back: its invariant says no more than that.
 #![tactic(auto)]
 
 ghost use Rattle.std.specs.Prelude.{◌≡◌, map};
