@@ -2,11 +2,12 @@
 // The whole output is built in a buffer by functions with contracts, then written line by line.
 #![tactic(auto)]
 
-ghost use Rattle.std.specs.Prelude.{◌≡◌, ◌+◌, ◌≤◌, ◌<◌, length, take};
+ghost use Rattle.std.specs.Prelude.{◌≡◌, ◌+◌, ◌≤◌, ◌<◌, length, take, OnOk, OnErr};
+ghost use Rattle.std.specs.Io.KnownBytes.{Appends};
 ghost use Rattle.io.specs.Counts.{IsPrefixLen};
 ghost use Rattle.stack.specs.Places.{Room};
 ghost use Rattle.search.specs.Outcomes.{SupercodesBelow};
-ghost use Rattle.listing.specs.Text.{Appended};
+ghost use Rattle.listing.specs.Text.{Appended, AppendsBeginning};
 ghost use Rattle.flipcensus.specs.Text.{level_text, census_text};
 
 use std::io::Write;
@@ -67,6 +68,8 @@ fn census_text(out: &mut [u8]) -> usize
 // Writes the output, each line by a write of its own. The library's write promises nothing of the bytes that standard output takes, so what they are is asked here.
 fn write_output<W: Write>(text: &[u8], out: &mut W) -> std::io::Result<()>
     requires { text.now ≡ census_text }
+    ensures ok { OnOk result (Appends (W.contents out.old) (W.contents out.new) text.now) }
+    ensures err { OnErr result (AppendsBeginning (W.contents out.old) (W.contents out.new) text.now) }
 {
     listing::write_lines(text, out)
 }

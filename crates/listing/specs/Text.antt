@@ -2,6 +2,8 @@
 use Rattle.std.specs.Prelude.{cond, List, [], ◌∷◌, ◌++◌, ◌≡◌, ℕ, zero, suc, ◌+◌, ◌/◌, ◌%◌, ◌≤◌, eqb, ltb, length, take}
 use Prim.Native.Char.{code}
 use Prim.Native.String.{String}
+use Rattle.std.specs.Prelude.{Option}
+use Rattle.std.specs.Io.KnownBytes.{Appends}
 use Rattle.io.specs.Digits.{hex_digit_ascii, last_digits}
 
 unfoldable pub ascii : String → List ℕ
@@ -36,3 +38,7 @@ pub record Appended (at : ℕ) (text : List ℕ) (most : ℕ) (old : List ℕ) (
   pub bytes : take r new ≡ take at old ++ text
   pub reach : r ≤ at + most
   pub size : length new ≡ length old
+
+-- For the code's contracts: what a writer holds, where that is known, grew by a beginning of the text
+abbrev pub AppendsBeginning : Option (List ℕ) → Option (List ℕ) → List ℕ → Type 0
+AppendsBeginning old new text = (n : ℕ) × (n ≤ length text) × Appends old new (take n text)

@@ -1,13 +1,13 @@
 // Lines of text in a buffer: decimal and hexadecimal numbers, the lines of a page's listing (01, "The station's interface"; 02, point 6) and of a census (02, point 14); and their writing.
 #![tactic(auto)]
 
-ghost use Rattle.std.specs.Prelude.{◌≡◌, ◌++◌, ◌+◌, ◌≤◌, ◌<◌, length, drop, OnOk};
+ghost use Rattle.std.specs.Prelude.{◌≡◌, ◌++◌, ◌+◌, ◌≤◌, ◌<◌, length, drop, OnOk, OnErr};
 ghost use Rattle.std.specs.Io.KnownBytes.{Appends};
 ghost use Rattle.io.specs.Digits.{hex_digit_ascii};
-ghost use Rattle.listing.specs.Text.{decimal, hex_of, hex_mark, line_length, Appended};
+ghost use Rattle.listing.specs.Text.{decimal, hex_of, hex_mark, line_length, Appended, AppendsBeginning};
 ghost use Rattle.listing.specs.Lines.{ok_line, columns_text, level_line, level_lines, data_line, refused_line, census_line};
 
-use std::io::Write;
+use std::io::{Error, ErrorKind, Write};
 
 // ---- text behind the first `at` bytes of a buffer; each gives the place where it ends
 
@@ -193,14 +193,31 @@ fn line_end(text: &[u8], from: usize) -> usize
     i
 }
 
-// Writes a text, each line by a write of its own.
+// Writes a line.
+fn write_line<W: Write>(line: &[u8], out: &mut W) -> std::io::Result<()>
+    ensures ok { OnOk result (Appends (W.contents out.old) (W.contents out.new) line.now) }
+    ensures err { OnErr result (AppendsBeginning (W.contents out.old) (W.contents out.new) line.now) }
+{
+    let mut done = 0;
+    while done < line.len() {
+        let n = out.write(&line[done..])?;
+        if n == 0 {
+            return Err(Error::from(ErrorKind::WriteZero));
+        }
+        done += n;
+    }
+    Ok(())
+}
+
+// Writes a text, each line by a write of its own; where one fails, a beginning of the text was written.
 pub fn write_lines<W: Write>(text: &[u8], out: &mut W) -> std::io::Result<()>
-    ensures { OnOk result (Appends (W.contents out.old) (W.contents out.new) text.now) }
+    ensures ok { OnOk result (Appends (W.contents out.old) (W.contents out.new) text.now) }
+    ensures err { OnErr result (AppendsBeginning (W.contents out.old) (W.contents out.new) text.now) }
 {
     let mut start = 0;
     while start < text.len() {
         let end = line_end(text, start);
-        out.write_all(&text[start..end])?;
+        write_line(&text[start..end], out)?;
         start = end;
     }
     Ok(())

@@ -2,13 +2,14 @@
 // The whole output is built in a buffer by functions with contracts, then written line by line.
 #![tactic(auto)]
 
-ghost use Rattle.std.specs.Prelude.{◌≡◌, true, ◌<◌, ◌≤◌, leb, length, take};
+ghost use Rattle.std.specs.Prelude.{◌≡◌, true, ◌<◌, ◌≤◌, leb, length, take, OnOk, OnErr};
+ghost use Rattle.std.specs.Io.KnownBytes.{Appends};
 ghost use Rattle.io.specs.Counts.{IsPrefixLen};
 ghost use Rattle.trellis.specs.Demand.{supercode};
 ghost use Rattle.trellis.specs.TwoWords.{off};
 ghost use Rattle.questions.specs.Questions.{first_above};
 ghost use Rattle.store_pages.specs.Pages.{decoded_page, default_limit};
-ghost use Rattle.listing.specs.Text.{Appended};
+ghost use Rattle.listing.specs.Text.{Appended, AppendsBeginning};
 ghost use Rattle.readpage.specs.Report.{decoded_text};
 ghost use Rattle.readpage.specs.Input.{PrintedFor};
 
@@ -67,6 +68,8 @@ fn read_full<R: Read>(from: &mut R, buffer: &mut [u8]) -> usize
 // Writes the output for the input, each line by a write of its own. The library's write promises nothing of the bytes that standard output takes, so what they are is asked here.
 fn write_output<W: Write>(input: &[u8], n: usize, text: &[u8], out: &mut W) -> std::io::Result<()>
     requires { PrintedFor input.now n text.now }
+    ensures ok { OnOk result (Appends (W.contents out.old) (W.contents out.new) text.now) }
+    ensures err { OnErr result (AppendsBeginning (W.contents out.old) (W.contents out.new) text.now) }
 {
     listing::write_lines(text, out)
 }
