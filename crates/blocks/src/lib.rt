@@ -9,25 +9,15 @@ ghost use Rattle.dump.specs.Block.{holds_value, fixed_byte, body_byte, block_of,
 ghost use Rattle.dump.specs.Parts.{values_of, fixed_from};
 ghost use Rattle.dump.specs.Dump.{dump_of, block_at, soft_of};
 
-fn wide(x: u8) -> u32
-    ensures { result ≡ x }
-{
-    x as u32
-}
-
 // The check of a block's first 510 bytes: a 16-bit running sum by wrapping add.
 pub fn check_of(block: &[u8]) -> u16
     requires { 510 ≤ length block.now }
     ensures { result ≡ check_of block.now }
 {
     let mut sum: u16 = 0;
-    let mut weight: u16 = 1;
-    let mut k = 0;
-    while k < 510 {
-        let term = weight as u32 * wide(block[k]);
-        sum = std::num::wrapping_add_u16(sum, (term % 65536) as u16);
-        weight += 1;
-        k += 1;
+    for k in 0..510 {
+        let term = (k as u32 + 1) * u32::from(block[k]);
+        sum = sum.wrapping_add((term % 65536) as u16);
     }
     sum
 }
@@ -37,13 +27,7 @@ fn holds_value(b: usize, k: usize) -> bool
     requires { b < 4 }
     ensures { result ≡ holds_value b k }
 {
-    if k < 16 {
-        return false;
-    }
-    if 496 <= k {
-        return false;
-    }
-    b * 480 + (k - 16) < 1890
+    16 <= k && k < 496 && b * 480 + (k - 16) < 1890
 }
 
 // What byte k, below 510, of block b is if it is no soft value.
@@ -51,16 +35,12 @@ fn fixed_byte(b: usize, k: usize) -> u8
     requires { b < 4 }
     ensures { result ≡ fixed_byte b k }
 {
-    if k == 0 {
-        return 80;
+    match k {
+        0 => b'P',
+        1 => b'G',
+        2 => b as u8,
+        _ => 0,
     }
-    if k == 1 {
-        return 71;
-    }
-    if k == 2 {
-        return b as u8;
-    }
-    0
 }
 
 // Byte k, below 510, of block b of the dump of a soft page.
@@ -69,10 +49,10 @@ fn body_byte(soft: &[u8], b: usize, k: usize) -> u8
     ensures { result ≡ body_byte soft.now b k }
 {
     if holds_value(b, k) {
-        let at = b * 480 + (k - 16);
-        return soft[at];
+        soft[b * 480 + (k - 16)]
+    } else {
+        fixed_byte(b, k)
     }
-    fixed_byte(b, k)
 }
 
 // Writes block b of the dump of a soft page.
@@ -80,14 +60,12 @@ fn write_block(soft: &[u8], b: usize, out: &mut [u8])
     requires { (length soft.now ≡ 1890) × (b < 4) × (length out.old ≡ 512) }
     ensures { out.new ≡ block_of soft.now b }
 {
-    let mut k = 0;
-    while k < 510 {
+    for k in 0..510 {
         out[k] = body_byte(soft, b, k);
-        k += 1;
     }
-    let sum = check_of(out);
-    out[510] = (sum / 256) as u8;
-    out[511] = (sum % 256) as u8;
+    let [high, low] = check_of(out).to_be_bytes();
+    out[510] = high;
+    out[511] = low;
 }
 
 // Writes the dump of a soft page.
@@ -95,12 +73,9 @@ pub fn write(soft: &[u8], out: &mut [u8])
     requires { (length soft.now ≡ 1890) × (length out.old ≡ 2048) }
     ensures { out.new ≡ dump_of soft.now }
 {
-    let mut b = 0;
-    while b < 4 {
+    for b in 0..4 {
         let start = b * 512;
-        let end = start + 512;
-        write_block(soft, b, &mut out[start..end]);
-        b += 1;
+        write_block(soft, b, &mut out[start..start + 512]);
     }
 }
 
@@ -110,8 +85,7 @@ pub fn block_at(dump: &[u8], b: usize) -> &[u8]
     ensures { result.now ≡ block_at dump.now b }
 {
     let start = b * 512;
-    let end = start + 512;
-    &dump[start..end]
+    &dump[start..start + 512]
 }
 
 // How many soft values block b holds: 16 columns of 30, in the last block 15.
@@ -127,13 +101,11 @@ fn fixed_from(block: &[u8], b: usize, start: usize, n: usize) -> bool
     requires { (length block.now ≡ 512) × (b < 4) × (start + n ≤ 510) }
     ensures { result ≡ fixed_from block.now b start n }
 {
-    let mut k = 0;
-    while k < n {
+    for k in 0..n {
         let at = start + k;
         if block[at] != fixed_byte(b, at) {
             return false;
         }
-        k += 1;
     }
     true
 }
@@ -155,9 +127,7 @@ pub fn check_right(block: &[u8]) -> bool
     requires { length block.now ≡ 512 }
     ensures { result ≡ check_right block.now }
 {
-    let high = wide(block[510]);
-    let low = wide(block[511]);
-    high * 256 + low == check_of(block) as u32
+    u16::from_be_bytes([block[510], block[511]]) == check_of(block)
 }
 
 // Copies a slice into one of its length, a byte after the other: the station's archive is to need no more of the C library than it says.
@@ -165,10 +135,8 @@ fn copy(from: &[u8], to: &mut [u8])
     requires { length to.old ≡ length from.now }
     ensures { to.new ≡ from.now }
 {
-    let mut k = 0;
-    while k < from.len() {
+    for k in 0..from.len() {
         to[k] = from[k];
-        k += 1;
     }
 }
 
@@ -177,14 +145,10 @@ pub fn read(dump: &[u8], out: &mut [u8])
     requires { (length dump.now ≡ 2048) × (length out.old ≡ 1890) }
     ensures { out.new ≡ soft_of dump.now }
 {
-    let mut b = 0;
-    while b < 4 {
+    for b in 0..4 {
         let n = values_of(b);
         let start = b * 512 + 16;
-        let end = start + n;
         let at = b * 480;
-        let to = at + n;
-        copy(&dump[start..end], &mut out[at..to]);
-        b += 1;
+        copy(&dump[start..start + n], &mut out[at..at + n]);
     }
 }

@@ -31,7 +31,7 @@ use Rattle.trellis.proofs.Short.{searchable}
 use Rattle.search.specs.Outcomes.{TablesFor}
 use Rattle.checker.specs.Lines.{line_of, listing_of}
 use Rattle.checker.specs.Judging.{code_verdict, names, judge_keys, judged_keys}
-use Rattle.checker.specs.declared.Verdict.{Verdict as CodeVerdict}
+use Rattle.std.specs.Prelude.{Option}
 use Rattle.checker.proofs.Lines.{Fits, line_names}
 
 module _ (t : Tree) (sound : Sound t) (vs : Values) (soft left right_masks : List ℕ) (keys : KeysOf t (key_nodes t.size vs soft left right_masks) (key_of vs soft)) (lengths numbers : List ℕ) where
@@ -124,7 +124,7 @@ module _ (t : Tree) (sound : Sound t) (vs : Values) (soft left right_masks : Lis
       ∙ ap (judges (length lengths) 0 false) (start_keys t N (key_of vs soft) keys sound)
 
 -- of either search of the short page's columns, by its tables
-pub judged_short : (s : Search) (i : ℕ) → i < 4 → (soft left right lengths numbers : List ℕ) (table : List ℤ) → TablesFor s i left right table → length numbers ≡ length lengths → (r : CodeVerdict)
+pub judged_short : (s : Search) (i : ℕ) → i < 4 → (soft left right lengths numbers : List ℕ) (table : List ℤ) → TablesFor s i left right table → length numbers ≡ length lengths → (r : Option ℕ)
     → r ≡ code_verdict (judged_keys (key_nodes 30 (level_values i) soft left right) lengths numbers) → r ≡ code_verdict (judged (trellis s short (level_values i) soft i) (listing_of 30 lengths numbers))
 judged_short s i h soft left right lengths numbers table tables both r e =
     e ∙ ap code_verdict (sym (judged_on_keys (trellis s short (level_values i) soft i) (trellis_sound short i (searchable i h) (level_values i) soft s) (level_values i) soft left right

@@ -1,9 +1,8 @@
 -- The loop of the checker: what it knows before a line, and what the line makes of it. Assumes nothing.
 use Prim.Native.Nat.{ℕ, suc, ◌+◌, ◌-◌, ◌≤◌, ◌<◌}
 use native.Mathlib.Omega.{arith}
-use mathlib.Core.Bool.{Bool, true, false, cond, not, ◌&&◌}
+use mathlib.Core.Bool.{Bool, true, false, cond, ◌&&◌}
 use mathlib.Core.List.{List, [], ◌∷◌}
-use mathlib.Core.Logic.{◌⊎◌, inl, inr}
 use mathlib.Core.Path.{◌≡◌, refl, sym, ap, ap₂, ◌∙◌}
 use lib.Dec.{eqb}
 use lib.IntN.{ℤ, pos}
@@ -11,20 +10,19 @@ use lib.ListN.{length, get_or}
 use borrow.Author.Tests.{eq-eqb, ne_eqb}
 use Rattle.paths.specs.Stack.{Nodes, extend, grow}
 use Rattle.paths.specs.Listings.{Verdict, accepted, wrong}
-use Rattle.paths.proofs.Booleans.{and_both, not_is}
 use Rattle.heap.specs.Holds.{Holds}
 use Rattle.trellis.specs.Values.{Values}
 use Rattle.trellis.specs.Keys.{Key, key, key_nodes}
-use Rattle.stack.specs.Places.{Upto}
+use Rattle.std.specs.Prelude.{Option, None, Some}
+use Rattle.stack.specs.declared.Path.{Path}
+use Rattle.stack.specs.Places.{path_key, Upto}
 use Rattle.extension.specs.Steps.{Given, TableOf, table_nodes, Advanced}
 use Rattle.search.specs.Progress.{Standing}
 use Rattle.search.proofs.Continues.{standing_start, holds_none, standing_next, same_nodes}
 use Rattle.checker.specs.Judging.{code_verdict, names, judge_keys, judged_keys}
-use Rattle.checker.specs.declared.Verdict.{Verdict as CodeVerdict}
 
 -- k lines are right, p is the last of them, and the heap holds the rest of the stack: the judge goes on from there
 pub record Judging (N : Nodes Key) (size : ℕ) (lengths numbers : List ℕ) (f : ℕ → Key) (paths k : ℕ) (p : Key) : Type 0 where
-  pub within : k ≤ length lengths
   pub standing : Standing size f paths k p
   pub rest : List Key
   pub holds : Holds Upto f paths rest
@@ -40,7 +38,6 @@ module _ (n : ℕ) (table : List ℤ) (soft left right lengths numbers : List �
   pub judging_start : 0 < n → (f : ℕ → Key) → Judging N n lengths numbers f 0 0 (key (pos 0) 0 0)
   unfolding judged_keys grow
   judging_start some f = record {
-    within = omega arith;
     standing = standing_start n f;
     rest = [];
     holds = holds_none f;
@@ -78,48 +75,44 @@ module _ (n : ℕ) (table : List ℤ) (soft left right lengths numbers : List �
         j.same ∙ ap (λ (m : ℕ). judges m k (eqb p.len n) (grow N p j.rest)) e ∙ ap₂ (λ (b : Bool) (w : Verdict). cond b accepted w) is (one_on k)
 
     -- a step is made for line k + 1
-    module _ (f' : ℕ → Key) (paths' : ℕ) (y : Key) (l : k < length lengths) (partial : p.len ≡ n → ⊥) (d : Advanced N n f f' paths paths' p y) where
-      -- as the code asks
-      abbrev named : Bool
-      named = not (eqb y.len 0) && (eqb (get_or lengths k 0) y.len && eqb (get_or numbers k 0) y.bits)
-
-      abbrev Stepped : Type 0
-      Stepped = ((y.len ≡ 0) × (grow N p j.rest ≡ [])) ⊎ ((0 < y.len) × (rest : List Key) × (grow N p j.rest ≡ y ∷ rest) × Holds Upto f' paths' rest)
-
+    module _ (f' : ℕ → Key) (paths' : ℕ) (l : k < length lengths) (partial : p.len ≡ n → ⊥) where
       judges_line : (stack : List Key) → grow N p j.rest ≡ stack → judged_keys N lengths numbers ≡ judges (suc (length lengths - suc k)) k false stack
       judges_line stack e = next_line l ∙ ap₂ (judges (suc (length lengths - suc k)) k) (ne_eqb p.len n partial) e
 
-      pub wrong_line : named ≡ false → judged_keys N lengths numbers ≡ wrong (k + 1)
-      unfolding judge_keys names
-      wrong_line w = go (d.lists j.rest j.holds) ∙ one_on k
-        where
-          go : Stepped → judged_keys N lengths numbers ≡ wrong (suc k)
-          go (inl e) = judges_line [] e.1
-          go (inr e) =
-              let other : (eqb (get_or lengths k 0) y.len && eqb (get_or numbers k 0) y.bits) ≡ false =
-              ap (λ (b : Bool). not b && (eqb (get_or lengths k 0) y.len && eqb (get_or numbers k 0) y.bits)) (sym (ne_eqb y.len 0 (λ z. omega (arith, e.0)))) ∙ w in
-              judges_line (y ∷ e.1) e.2 ∙ ap (λ (b : Bool). cond b (judges (length lengths - suc k) (suc k) (eqb y.len n) (grow N y e.1)) (wrong (suc k))) other
+      pub no_path : Advanced N n f f' paths paths' p None → judged_keys N lengths numbers ≡ wrong (k + 1)
+      unfolding judge_keys
+      no_path d = judges_line [] (d.lists j.rest j.holds) ∙ one_on k
 
-      pub right_line : named ≡ true → Judging N n lengths numbers f' paths' (k + 1) y
-      unfolding judge_keys names
-      right_line r = go (d.lists j.rest j.holds)
-        where
-          go : Stepped → Judging N n lengths numbers f' paths' (k + 1) y
-          go (inl e) = absurd (not_is (eqb y.len 0) (and_both (not (eqb y.len 0)) _ r).0 (eq-eqb y.len 0 e.0))
-          go (inr e) =
-              let moved : suc k ≡ k + 1 = omega arith in
-              record {
-                within = omega arith;
-                standing = standing_next n table soft left right 0 f f' paths paths' k p y d j.standing;
-                rest = e.1;
-                holds = e.3;
-                same =
-                    judges_line (y ∷ e.1) e.2
-                    ∙ ap (λ (b : Bool). cond b (judges (length lengths - suc k) (suc k) (eqb y.len n) (grow N y e.1)) (wrong (suc k))) (and_both (not (eqb y.len 0)) _ r).1
-                    ∙ ap (λ (i : ℕ). judges (length lengths - i) i (eqb y.len n) (grow N y e.1)) moved;
-              }
+      module _ (taken : Path) (d : Advanced N n f f' paths paths' p (Some taken)) where
+        abbrev y : Key
+        y = path_key taken
+
+        -- as the code asks
+        abbrev named : Bool
+        named = eqb (get_or lengths k 0) y.len && eqb (get_or numbers k 0) y.bits
+
+        -- the judge at this line, by what is asked of it
+        at_line : judged_keys N lengths numbers ≡ cond named (judges (length lengths - suc k) (suc k) (eqb y.len n) (grow N y (d.lists j.rest j.holds).0)) (wrong (suc k))
+        unfolding judge_keys names
+        at_line = judges_line (y ∷ (d.lists j.rest j.holds).0) (d.lists j.rest j.holds).1
+
+        pub wrong_line : named ≡ false → judged_keys N lengths numbers ≡ wrong (k + 1)
+        wrong_line w = at_line ∙ ap (λ (b : Bool). cond b (judges (length lengths - suc k) (suc k) (eqb y.len n) (grow N y (d.lists j.rest j.holds).0)) (wrong (suc k))) w ∙ one_on k
+
+        pub right_line : named ≡ true → Judging N n lengths numbers f' paths' (k + 1) y
+        right_line r =
+            let moved : suc k ≡ k + 1 = omega arith in
+            record {
+              standing = standing_next n table soft left right 0 f f' paths paths' k p j.standing taken d;
+              rest = (d.lists j.rest j.holds).0;
+              holds = (d.lists j.rest j.holds).2;
+              same =
+                  at_line
+                  ∙ ap (λ (b : Bool). cond b (judges (length lengths - suc k) (suc k) (eqb y.len n) (grow N y (d.lists j.rest j.holds).0)) (wrong (suc k))) r
+                  ∙ ap (λ (i : ℕ). judges (length lengths - i) i (eqb y.len n) (grow N y (d.lists j.rest j.holds).0)) moved;
+            }
 
   -- the table's nodes are the specification's
-  pub contract : (vs : Values) → Given n soft left right table → TableOf vs table → (r : CodeVerdict) → r ≡ code_verdict (judged_keys N lengths numbers)
+  pub contract : (vs : Values) → Given n soft left right table → TableOf vs table → (r : Option ℕ) → r ≡ code_verdict (judged_keys N lengths numbers)
       → r ≡ code_verdict (judged_keys (key_nodes n vs soft left right) lengths numbers)
   contract vs g t r e = e ∙ ap (λ (M : Nodes Key). code_verdict (judged_keys M lengths numbers)) (same_nodes n soft left right table vs g t)

@@ -1,14 +1,13 @@
 -- For the code's contracts: the judge on keys that stand for paths, by the numbers of the lines; and its verdict as the code gives it. Assumes nothing.
-use Rattle.std.specs.Prelude.{Bool, false, cond, ◌&&◌, List, [], ◌∷◌, ◌≡◌, ℕ, zero, suc, ◌≤◌, eqb, pos, length, get_or}
+use Rattle.std.specs.Prelude.{Bool, false, cond, ◌&&◌, List, [], ◌∷◌, Option, None, Some, ◌≡◌, ℕ, zero, suc, ◌≤◌, eqb, pos, length, get_or}
 use Rattle.paths.specs.Stack.{Nodes, extend, grow}
 use Rattle.paths.specs.Listings.{Verdict, accepted, wrong}
 use Rattle.trellis.specs.Keys.{Key, key}
-use Rattle.checker.specs.declared.Verdict.{Verdict as CodeVerdict}
-use Rattle.checker.specs.declared.Verdict.TheVariants.{Accepted, Wrong}
 
-unfoldable pub code_verdict : Verdict → CodeVerdict
-code_verdict accepted = Accepted
-code_verdict (wrong k) = Wrong k
+-- the first wrong line, counted from 1; none where the listing is accepted
+unfoldable pub code_verdict : Verdict → Option ℕ
+code_verdict accepted = None
+code_verdict (wrong k) = Some k
 
 -- line k, counted from 0, has the length and the bits of a key
 unfoldable pub names : List ℕ → List ℕ → ℕ → Key → Bool

@@ -7,77 +7,48 @@
 
 pub mod short_page;
 
-ghost use Rattle.std.specs.Prelude.{◌&&◌, not, ◌≡◌, eqb};
+ghost use Rattle.std.specs.Prelude.{◌&&◌, ◌≡◌, eqb};
 ghost use Rattle.trellis.specs.Values.{Values};
-ghost use Rattle.trellis.specs.Keys.{key_nodes};
-ghost use Rattle.stack.specs.Places.{Room};
-ghost use Rattle.extension.specs.Steps.{Given, TableOf};
+ghost use Rattle.extension.specs.Steps.{TableOf};
+ghost use Rattle.extension.specs.Lent.{GivenBy};
+ghost use Rattle.search.specs.Lent.{key_nodes_of};
 ghost use Rattle.checker.specs.Judging.{code_verdict, judged_keys, Lines};
 
-// What is said of a listing: it is accepted, or its first wrong line, counted from 1.
-#[derive(Drop)]
-pub enum Verdict {
-    Accepted,
-    Wrong(u64),
-}
+use extension::Trellis;
+use stack::{Path, Stack};
 
-// Whether a line's length and number are those of a path, which has a bit at least.
-fn names(length: u64, number: u64, l: u8, b: u64) -> bool
-    ensures { result ≡ (not (eqb l 0) && (eqb length l && eqb number b)) }
+// Whether a line's length and number are those of a path.
+fn names(length: u64, number: u64, path: Path) -> bool
+    ensures { result ≡ (eqb length path.len && eqb number path.bits) }
 {
-    if l == 0 {
-        return false;
-    }
-    if length == l as u64 {
-        return number == b;
-    }
-    false
+    length == u64::from(path.len) && number == path.bits
 }
 
-// The verdict on a listing of the search of a soft column for the first word of two trellises; the arrays may hold anything.
-pub fn judge(
-    sums: &mut [i16; 2002],
-    lens: &mut [u8; 2002],
-    bits: &mut [u64; 2002],
-    n: u8,
-    col: &[u8],
-    left: &[u64],
-    right: &[u64],
-    values: &[i16; 16],
-    lengths: &[u64],
-    numbers: &[u64],
-) -> Verdict
+// The first wrong line, counted from 1, of a listing of the search for the first word of two trellises; none where the listing is accepted. The stack may hold anything.
+// 02 gives a listing as two arrays, "a length and the bits as a number" of each line: so does the C interface, and so they come here.
+pub fn judge(stack: &mut Stack, trellis: &Trellis, lengths: &[u64], numbers: &[u64]) -> Option<u64>
     requires lines { Lines lengths.now numbers.now }
-    requires given { Given n col.now left.now right.now values.now }
-    requires room { Room sums.old lens.old bits.old }
-    ensures room_2 { Room sums.new lens.new bits.new }
-    ensures value { (vs : Values) → TableOf vs values.now
-        → result ≡ code_verdict (judged_keys (key_nodes n vs col.now left.now right.now) lengths.now numbers.now) }
+    requires given { GivenBy trellis.now }
+    ensures { (vs : Values) → TableOf vs trellis.now.values.now
+        → result ≡ code_verdict (judged_keys (key_nodes_of vs trellis.now) lengths.now numbers.now) }
 {
-    let mut paths: usize = 0;
-    let mut s: i16 = 0;
-    let mut l: u8 = 0;
-    let mut b: u64 = 0;
-    let mut k: usize = 0;
-    while k < lengths.len() {
+    stack.clear();
+    let mut last = Path::EMPTY;
+    for k in 0..lengths.len() {
         let line = k as u64 + 1;
-        if l == n {
-            return Verdict::Wrong(line);
+        if last.len == trellis.n {
+            return Some(line);
         }
-        let t = extension::advance(
-            &mut *sums, &mut *lens, &mut *bits, paths, n, col, left, right, values, s, l, b,
-        );
-        paths = t.paths;
-        s = t.sum;
-        l = t.len;
-        b = t.bits;
-        if !names(lengths[k], numbers[k], l, b) {
-            return Verdict::Wrong(line);
+        let Some(path) = extension::advance(stack, trellis, last) else {
+            return Some(line);
+        };
+        if !names(lengths[k], numbers[k], path) {
+            return Some(line);
         }
-        k += 1;
+        last = path;
     }
-    if l == n {
-        return Verdict::Accepted;
+    if last.len == trellis.n {
+        return None;
     }
-    Verdict::Wrong(k as u64 + 1)
+    Some(lengths.len() as u64 + 1)
 }

@@ -1,6 +1,6 @@
 -- For the code's contracts: the checker's answer as the numbers that C gets. Assumes nothing.
-use Rattle.store_listings.specs.Listings.{number, place, line}
-use Rattle.store_listings.specs.declared.ListingAnswer.{ListingAnswer}
+use Rattle.questions.specs.Answer.{number, place}
+use Rattle.store_listings.specs.Listings.{ListingAnswer, line}
 use Rattle.checker_entries.specs.declared.ListingTold.{ListingTold}
 
 abbrev pub listing_told_of : ListingAnswer → ListingTold

@@ -6,7 +6,7 @@ ghost use Rattle.search.specs.Outcomes.{search_of};
 ghost use Rattle.store_listings.specs.Listings.{listing_answer};
 ghost use Rattle.checker_entries.specs.Told.{listing_told_of};
 
-use store_listings::ListingAnswer;
+use questions::refusal::Refusal;
 
 // What the checker answers, as C gets it: line 0 where the listing is accepted, or refused by number and place.
 #[repr(C)]
@@ -17,25 +17,22 @@ pub struct ListingTold {
     pub line: u64,
 }
 
-fn numbers_of_listing(answer: ListingAnswer) -> ListingTold
-    ensures { result ≡ listing_told_of answer }
-{
-    match answer {
-        ListingAnswer::Accepted => ListingTold {
-            number: 0,
-            place: 0,
-            line: 0,
-        },
-        ListingAnswer::Wrong(k) => ListingTold {
-            number: 0,
-            place: 0,
-            line: k,
-        },
-        ListingAnswer::Refused(n, p) => ListingTold {
-            number: n,
-            place: p,
-            line: 0,
-        },
+impl From<Result<Option<u64>, Refusal>> for ListingTold {
+    ghost from_gives = { λ answer told. told ≡ listing_told_of answer };
+
+    fn from(answer: Result<Option<u64>, Refusal>) -> ListingTold {
+        match answer {
+            Ok(wrong) => ListingTold {
+                number: 0,
+                place: 0,
+                line: wrong.unwrap_or(0),
+            },
+            Err(refusal) => ListingTold {
+                number: refusal.question.number(),
+                place: refusal.place,
+                line: 0,
+            },
+        }
     }
 }
 
@@ -49,5 +46,5 @@ pub extern "C" fn entry_check_listing(
 ) -> ListingTold
     ensures { result ≡ listing_told_of (listing_answer (search_of in_supercodes) level soft.now lengths.now bits.now) }
 {
-    numbers_of_listing(store_listings::check_listing(soft, level, in_supercodes, lengths, bits))
+    store_listings::check_listing(soft, level, in_supercodes, lengths, bits).into()
 }

@@ -1,7 +1,7 @@
 -- What the growth of a stack is to the 64 places. Assumes nothing.
 use Prim.Native.Nat.{ℕ, zero, suc, ◌+◌, ◌-◌, ◌*◌, ◌/◌, ◌%◌, ◌≤◌, ◌<◌}
 use native.Mathlib.Omega.{arith}
-use mathlib.Core.Bool.{Bool, true, false, cond, ◌&&◌, not, true≢false}
+use mathlib.Core.Bool.{Bool, true, false, cond, ◌&&◌, ◌||◌, not, true≢false}
 use mathlib.Core.List.{List, [], ◌∷◌}
 use mathlib.Core.Logic.{◌⊎◌, inl, inr, ⊎_elim}
 use mathlib.Core.Path.{◌≡◌, refl, sym, ap, ap₂, ◌∙◌, subst, subst⁻¹}
@@ -11,27 +11,25 @@ use lib.IntN.{ℤ, pos, ◌+ℤ◌}
 use lib.ListN.{length, get_or, take}
 use lib.Seq.{take_all}
 use lib.Signed.{lt_z}
-use mir.Syntax.{w16}
-use mir.Val.{SFits, to_z, of_z}
-use mir.Facts.{to_z-of_z}
 use Rattle.column.specs.Mask.{parity}
 use Rattle.paths.specs.Lists.{Mem}
 use Rattle.paths.specs.Stack.{Nodes, insert, push, extend, grow}
-use Rattle.paths.specs.Bounded.{crowded}
+use Rattle.paths.specs.Bounded.{Bounded, bounded, crowded}
+use Rattle.paths.proofs.Booleans.{or_false}
 use Rattle.paths.proofs.Bounded.{of_take}
 use Rattle.paths.proofs.Integers.{same_before}
 use Rattle.paths.proofs.Stack.{of_extend, grow_length}
-use Rattle.heap.specs.Heap.{Every}
-use Rattle.heap.specs.Holds.{AllAfter, Ordered}
-use Rattle.trellis.specs.Keys.{Key, key, key_before, key_passes}
+use Rattle.heap.specs.Holds.{Ordered}
+use Rattle.trellis.specs.Keys.{Key, key_before, key_passes}
 use Rattle.trellis.proofs.Order.{key_order}
-use Rattle.stack.specs.Places.{Upto}
+use Rattle.std.specs.Prelude.{Option, None, Some}
+use Rattle.stack.specs.declared.Path.{Path}
+use Rattle.stack.specs.Places.{path_key, Upto}
 use Rattle.extension.specs.Steps.{Given, Good, Held, table_extension, table_nodes}
-use Rattle.extension.proofs.Growing.{ordered_grow}
 use Rattle.extension.proofs.NextBit.{let_in, dead_in, asked_in}
-use Rattle.extension.proofs.Advances.{flag, flag_other, good_none, held_extension, passes_free, passes}
-use Rattle.chip.specs.Places.{listed, placed, Leading, Out, Stepped}
-use Rattle.chip.proofs.Placed.{listed_length, in_listed, of_listed, placed_length, swap_placed, first_placed, placed_after}
+use Rattle.extension.proofs.Advances.{flag, flag_other, held_extension, passes_free, passes}
+use Rattle.chip.specs.Places.{placed, Leading, Standing, First, Stepped}
+use Rattle.chip.proofs.Placed.{placed_length, swap_placed, first_placed, placed_after}
 
 -- ---- growth, for any nodes in the order of keys
 
@@ -77,24 +75,10 @@ module _ (E : Bool → Key → Key) (X F : Key → Bool) where
     grow_both false true xs o a b ne = grow_pushes xs ∙ pushed_in (E true p) (push M (E false p) xs) b ∙ ap (placed (E true p)) (pushed_in (E false p) xs a)
     grow_both false false xs o a b ne = absurd (ne refl)
 
-ordered_take : (k : ℕ) (xs : List Key) → Ordered Upto xs → Ordered Upto (take k xs)
-ordered_take zero xs o = tt
-ordered_take (suc k) [] o = tt
-ordered_take (suc k) (x ∷ xs) o = (after k xs o.0, ordered_take k xs o.1)
-  where
-    after : (k : ℕ) (ys : List Key) → AllAfter Upto x ys → AllAfter Upto x (take k ys)
-    after zero ys a = tt
-    after (suc k) [] a = tt
-    after (suc k) (y ∷ ys) a = (a.0, after k ys a.1)
-
 -- ---- a step
 
--- a sum that is handed on
-pub stepped_at : (N : Nodes Key) (size : ℕ) (f₀ f : ℕ → Key) (n m : ℕ) (pushed : Bool) (p : Key) (z : ℤ) (l b : ℕ) → SFits w16 z → Stepped N size f₀ f n m pushed p (key z l b) → Stepped N size f₀ f n m pushed p (key (to_z w16 (of_z w16 z)) l b)
-stepped_at N size f₀ f n m pushed p z l b h = subst⁻¹ (λ (y : ℤ). Stepped N size f₀ f n m pushed p (key z l b) → Stepped N size f₀ f n m pushed p (key y l b)) (to_z-of_z h) (λ q. q)
-
 module _ (n : ℕ) (soft left right : List ℕ) (table : List ℤ) (g : Given n soft left right table) (lead : Leading table)
-    (s : ℤ) (l b : ℕ) (lt : l < n) (gp : Good n (key s l b)) (f₀ : ℕ → Key) (k : ℕ) (few : k ≤ 63) (held : Every (Held n) f₀ k) (ord : Ordered Upto (listed f₀ k)) where
+    (p : Key) (lt : p.len < n) (gp : Good n p) (lost : Bool) (xs : List Key) (stands : Standing xs) (held : (k : Key) → Mem k xs → Held n k) where
   abbrev K : Nodes Key
   K = table_nodes n table soft left right
 
@@ -107,114 +91,92 @@ module _ (n : ℕ) (soft left right : List ℕ) (table : List ℤ) (g : Given n 
   abbrev F : Key → Bool
   F z = eqb z.len n
 
-  abbrev p : Key
-  p = key s l b
+  abbrev k : ℕ
+  k = length xs
 
-  abbrev xs : List Key
-  xs = listed f₀ k
-
-  part : eqb l n ≡ false
-  part = ne_eqb l n (omega arith)
+  part : eqb p.len n ≡ false
+  part = ne_eqb p.len n (omega arith)
 
   held_all : (z : Key) → Mem z (take 64 (grow K p xs)) → Held n z
-  held_all z m = ⊎_elim (λ h. subst⁻¹ (Held n) h.1 (held_extension n soft left right table g p h.0 lt gp)) (λ h. old (of_listed f₀ k z h))
+  held_all z m = ⊎_elim (λ h. subst⁻¹ (Held n) h.1 (held_extension n soft left right table g p h.0 lt gp)) (held z)
       (of_extend K p xs z (subst (λ (ys : List Key). Mem z ys) (grow_extend G X F p part xs) (of_take 64 (grow K p xs) z m)))
-    where
-      old : (j : ℕ) × (j < k) × (z ≡ f₀ j) → Held n z
-      old r = subst⁻¹ (Held n) r.2 (held r.0 r.1)
 
-  stepped : (f : ℕ → Key) (m : ℕ) (pushed : Bool) (y : Key) → m ≤ 63 → pushed ≡ crowded K 64 (grow K p xs) → take 64 (grow K p xs) ≡ y ∷ listed f m → Stepped K n f₀ f k m pushed p y
-  stepped f m pushed y le fl e =
-      record {
-        few = le;
-        held = λ j h. member (f j) (inr (in_listed f m j h));
-        ordered = (subst (Ordered Upto) e (ordered_take 64 (grow K p xs) (ordered_grow G X F p xs ord))).1;
-        good = (member y (inl refl)).good;
-        flag = fl;
-        step = inr (((member y (inl refl)).some, e));
-      }
+  stepped : (ys : List Key) (lost' : Bool) (y : Path) → lost' ≡ (lost || crowded K 64 (grow K p xs)) → take 64 (grow K p xs) ≡ path_key y ∷ ys → Stepped K n (bounded xs lost) (bounded ys lost') p (Some y)
+  stepped ys lost' y fl e = record { held = λ z m. member z (inr m); taken = member (path_key y) (inl refl); flag = fl; step = e }
     where
-      member : (z : Key) → Mem z (y ∷ listed f m) → Held n z
-      member z h = held_all z (subst⁻¹ (λ (ys : List Key). Mem z ys) e h)
+      member : (z : Key) → Mem z (path_key y ∷ ys) → Held n z
+      member z h = held_all z (subst⁻¹ (λ (l : List Key). Mem z l) e h)
 
-  room : (ys : List Key) → length ys ≤ 64 → (false ≡ crowded K 64 ys) × (take 64 ys ≡ ys)
+  room : (ys : List Key) → length ys ≤ 64 → (lost ≡ (lost || crowded K 64 ys)) × (take 64 ys ≡ ys)
   unfolding crowded
-  room ys h = (sym (le-ltb 64 (length ys) h), take_all 64 ys h)
+  room ys h = (sym (ap (λ (b : Bool). lost || b) (le-ltb 64 (length ys) h) ∙ or_false lost), take_all 64 ys h)
 
-  stepped_out : (m : ℕ) (pushed : Bool) (y : Key) → grow K p xs ≡ xs → Out f₀ k m pushed y → Stepped K n f₀ f₀ k m pushed p y
-  unfolding listed
-  stepped_out m pushed y e o = go o.next
+  stepped_out : (ys : List Key) (y : Option Path) → grow K p xs ≡ xs → First xs ys y → Stepped K n (bounded xs lost) (bounded ys lost) p y
+  stepped_out ys None e (ex, ey) =
+      record { held = λ z m. absurd (subst (λ (l : List Key). Mem z l) ey m); taken = tt; flag = (fits e).0; step = ((fits e).1 ∙ e ∙ ex, ey) }
     where
-      fits : (false ≡ crowded K 64 (grow K p xs)) × (take 64 (grow K p xs) ≡ grow K p xs)
-      fits = room (grow K p xs) (omega (arith, ap length e, listed_length f₀ k))
-
-      go : ((k ≡ 0) × (m ≡ 0) × (y ≡ key (pos 0) 0 0)) ⊎ ((0 < k) × (m ≡ k - 1) × (listed f₀ k ≡ y ∷ listed f₀ m)) → Stepped K n f₀ f₀ k m pushed p y
-      go (inl (ek, em, ey)) =
-          record {
-            few = omega arith;
-            held = λ j h. absurd (omega arith);
-            ordered = subst⁻¹ (λ (i : ℕ). Ordered Upto (listed f₀ i)) em tt;
-            good = subst⁻¹ (Good n) ey (good_none n);
-            flag = o.none_pushed ∙ fits.0;
-            step = inl ((ap (λ (z : Key). z.len) ey, fits.1 ∙ e ∙ ap (listed f₀) ek));
-          }
-      go (inr (some, em, ey)) = stepped f₀ m pushed y (omega arith) (o.none_pushed ∙ fits.0) (fits.1 ∙ e ∙ ey)
+      fits : grow K p xs ≡ xs → (lost ≡ (lost || crowded K 64 (grow K p xs))) × (take 64 (grow K p xs) ≡ grow K p xs)
+      fits e = room (grow K p xs) (omega (arith, ap length e, stands.few))
+  stepped_out ys (Some y) e o = stepped ys lost y (fits e).0 ((fits e).1 ∙ e ∙ o)
+    where
+      fits : grow K p xs ≡ xs → (lost ≡ (lost || crowded K 64 (grow K p xs))) × (take 64 (grow K p xs) ≡ grow K p xs)
+      fits e = room (grow K p xs) (omega (arith, ap length e, stands.few))
 
   abbrev x₁ : ℕ
-  x₁ = get_or left l 0
+  x₁ = get_or left p.len 0
 
   abbrev y₁ : ℕ
-  y₁ = get_or right l 0
+  y₁ = get_or right p.len 0
 
   free : (eqb x₁ 0 && eqb y₁ 0) ≡ true → (t : Bool) → X (G t p) ≡ true
-  free = passes_free n soft left right table g s l b lt gp f₀ f₀ 0 (λ j h. absurd (omega arith))
+  free = passes_free n soft left right table g p lt gp (λ j. p) (λ j. p) 0 (λ j h. absurd (omega arith))
 
   -- the bit that agrees stands before the other
-  leads : (q t u : ℕ) → q ≡ get_or soft l 0 → t ≡ q / 4 % 2 → t < 2 → u ≡ 1 - t → key_before (G (flag t) p) (G (flag u) p) ≡ true
+  leads : (q t u : ℕ) → q ≡ get_or soft p.len 0 → t ≡ q / 4 % 2 → t < 2 → u ≡ 1 - t → key_before (G (flag t) p) (G (flag u) p) ≡ true
   unfolding key_before table_extension
   leads q zero zero eq et ht eu = absurd (omega arith)
   leads q zero (suc zero) eq et ht eu =
-      let h : lt_z (get_or table (1 * 8 + get_or soft l 0) (pos 0)) (get_or table (0 * 8 + get_or soft l 0) (pos 0)) ≡ true = lead.more (get_or soft l 0) 0 (g.soft l lt) (et ∙ ap (λ (i : ℕ). i / 4 % 2) eq) in
-      let k : lt_z (s +ℤ get_or table (1 * 8 + get_or soft l 0) (pos 0)) (s +ℤ get_or table (0 * 8 + get_or soft l 0) (pos 0)) ≡ true = same_before s _ _ ∙ h in
+      let h : lt_z (get_or table (1 * 8 + get_or soft p.len 0) (pos 0)) (get_or table (0 * 8 + get_or soft p.len 0) (pos 0)) ≡ true = lead.more (get_or soft p.len 0) 0 (g.soft p.len lt) (et ∙ ap (λ (i : ℕ). i / 4 % 2) eq) in
+      let k : lt_z (p.sum +ℤ get_or table (1 * 8 + get_or soft p.len 0) (pos 0)) (p.sum +ℤ get_or table (0 * 8 + get_or soft p.len 0) (pos 0)) ≡ true = same_before p.sum _ _ ∙ h in
       rw k
   leads q zero (suc (suc u)) eq et ht eu = absurd (omega arith)
   leads q (suc zero) zero eq et ht eu =
-      let h : lt_z (get_or table (0 * 8 + get_or soft l 0) (pos 0)) (get_or table (1 * 8 + get_or soft l 0) (pos 0)) ≡ true = lead.more (get_or soft l 0) 1 (g.soft l lt) (et ∙ ap (λ (i : ℕ). i / 4 % 2) eq) in
-      let k : lt_z (s +ℤ get_or table (0 * 8 + get_or soft l 0) (pos 0)) (s +ℤ get_or table (1 * 8 + get_or soft l 0) (pos 0)) ≡ true = same_before s _ _ ∙ h in
+      let h : lt_z (get_or table (0 * 8 + get_or soft p.len 0) (pos 0)) (get_or table (1 * 8 + get_or soft p.len 0) (pos 0)) ≡ true = lead.more (get_or soft p.len 0) 1 (g.soft p.len lt) (et ∙ ap (λ (i : ℕ). i / 4 % 2) eq) in
+      let k : lt_z (p.sum +ℤ get_or table (0 * 8 + get_or soft p.len 0) (pos 0)) (p.sum +ℤ get_or table (1 * 8 + get_or soft p.len 0) (pos 0)) ≡ true = same_before p.sum _ _ ∙ h in
       rw k
   leads q (suc zero) (suc u) eq et ht eu = absurd (omega arith)
   leads q (suc (suc t)) u eq et ht eu = absurd (omega arith)
 
-  pub stepped_both : (f₁ f : ℕ → Key) (m q t u : ℕ) (full : Bool) (kt ku r : Key) → (eqb x₁ 0 && eqb y₁ 0) ≡ true → q ≡ get_or soft l 0 → t ≡ q / 4 % 2 → t < 2 → u ≡ 1 - t
-      → kt ≡ G (flag t) p → ku ≡ G (flag u) p → m ≡ cond (eqb k 63) 63 (k + 1) → full ≡ eqb k 63
-      → placed kt xs ≡ r ∷ listed f₁ k → listed f (cond (eqb k 63) 63 (k + 1)) ≡ take 63 (placed ku (listed f₁ k)) → Stepped K n f₀ f k m full p r
+  pub stepped_both : (s₁ s : Bounded Key) (q t u : ℕ) (kt ku : Key) (r : Path) → (eqb x₁ 0 && eqb y₁ 0) ≡ true → q ≡ get_or soft p.len 0 → t ≡ q / 4 % 2 → t < 2 → u ≡ 1 - t
+      → kt ≡ G (flag t) p → ku ≡ G (flag u) p
+      → placed kt xs ≡ path_key r ∷ s₁.stack → s₁.any_pushed_out ≡ lost
+      → s ≡ bounded (take 63 (placed ku s₁.stack)) (s₁.any_pushed_out || eqb (length s₁.stack) 63) → Stepped K n (bounded xs lost) s p (Some r)
   unfolding crowded
-  stepped_both f₁ f m q t u full kt ku r fr eq et ht eu ekt eku em ef out back =
-      stepped f m full r (omega (arith, em, small (eqb k 63) refl)) (ef ∙ crowd)
-      (ap (take 64) grown ∙ ap (λ (ys : List Key). take 64 (placed ku ys)) out ∙ ap (take 64) (placed_after r ku (listed f₁ k) (before (first_placed kt r xs (listed f₁ k) out)))
-      ∙ ap (λ (ys : List Key). r ∷ ys) (sym back ∙ ap (listed f) (sym em)))
+  stepped_both s₁ s q t u kt ku r fr eq et ht eu ekt eku out same back =
+      subst⁻¹ (λ (b : Bounded Key). Stepped K n (bounded xs lost) b p (Some r)) back
+      (stepped (take 63 (placed ku s₁.stack)) (s₁.any_pushed_out || eqb (length s₁.stack) 63) r (ap₂ ◌||◌ same (ap (λ (i : ℕ). eqb i 63) many ∙ crowd))
+      (ap (take 64) grown ∙ ap (λ (ys : List Key). take 64 (placed ku ys)) out ∙ ap (take 64) (placed_after (path_key r) ku s₁.stack (before (first_placed kt (path_key r) xs s₁.stack out)))))
     where
-      small : (c : Bool) → eqb k 63 ≡ c → cond c 63 (k + 1) ≤ 63
-      small true e = omega arith
-      small false e = omega (arith, eqb-false k 63 e)
+      many : length s₁.stack ≡ k
+      many = let both : length (placed kt xs) ≡ suc (length s₁.stack) = ap length out in omega (arith, both, placed_length kt xs)
 
       grown : grow K p xs ≡ placed ku (placed kt xs)
       grown =
-          grow_both G X F p part (flag t) (flag u) xs ord (free fr false) (free fr true) (flag_other t u ht eu)
+          grow_both G X F p part (flag t) (flag u) xs stands.ordered (free fr false) (free fr true) (flag_other t u ht eu)
           ∙ ap₂ (λ (i j : Key). placed i (placed j xs)) (sym eku) (sym ekt)
 
       ahead : key_before kt ku ≡ true
       ahead = ap₂ key_before ekt eku ∙ leads q t u eq et ht eu
 
-      before : (r ≡ kt) ⊎ (key_before r kt ≡ true) → key_before r ku ≡ true
+      before : (path_key r ≡ kt) ⊎ (key_before (path_key r) kt ≡ true) → key_before (path_key r) ku ≡ true
       before (inl e) = subst⁻¹ (λ (z : Key). key_before z ku ≡ true) e ahead
-      before (inr e) = key_order.transitive r kt ku e ahead
+      before (inr e) = key_order.transitive (path_key r) kt ku e ahead
 
       count : length (grow K p xs) ≡ k + 2
-      count = ap length grown ∙ placed_length ku (placed kt xs) ∙ ap suc (placed_length kt xs) ∙ two (length xs) (listed_length f₀ k)
+      count = ap length grown ∙ placed_length ku (placed kt xs) ∙ ap suc (placed_length kt xs) ∙ two
         where
-          two : (i : ℕ) → i ≡ k → suc (suc i) ≡ k + 2
-          two i e = omega arith
+          two : suc (suc k) ≡ k + 2
+          two = omega arith
 
       crowd : eqb k 63 ≡ crowded K 64 (grow K p xs)
       crowd = two (eqb k 63) refl ∙ ap (ltb 64) (sym count)
@@ -223,24 +185,24 @@ module _ (n : ℕ) (soft left right : List ℕ) (table : List ℤ) (g : Given n 
           two true e = e ∙ sym (lt-ltb 64 (k + 2) (omega (arith, eqb-true k 63 e)))
           two false e = e ∙ sym (le-ltb 64 (k + 2) (omega (arith, eqb-false k 63 e)))
 
-  module _ (u v : ℕ) (eu : u ≡ parity x₁ (b * 2)) (ev : v ≡ parity y₁ (b * 2)) (hu : u < 2) (hv : v < 2) where
+  module _ (u v : ℕ) (eu : u ≡ parity x₁ (p.bits * 2)) (ev : v ≡ parity y₁ (p.bits * 2)) (hu : u < 2) (hv : v < 2) where
     lets : (t : ℕ) → t < 2 → X (G (flag t) p) ≡ let_in (eqb x₁ 0) (eqb y₁ 0) u v t
-    lets = passes n soft left right table g s l b lt gp f₀ f₀ 0 (λ j h. absurd (omega arith)) u v eu ev hu hv
+    lets = passes n soft left right table g p lt gp (λ j. p) (λ j. p) 0 (λ j h. absurd (omega arith)) u v eu ev hu hv
 
-    pub stepped_dead : (m : ℕ) (pushed : Bool) (r : Key) → (not (eqb x₁ 0) && (not (eqb y₁ 0) && not (eqb u v))) ≡ true → Out f₀ k m pushed r → Stepped K n f₀ f₀ k m pushed p r
-    stepped_dead m pushed r apart o =
+    pub stepped_dead : (s : Bounded Key) (r : Option Path) → (not (eqb x₁ 0) && (not (eqb y₁ 0) && not (eqb u v))) ≡ true → First xs s.stack r → s.any_pushed_out ≡ lost → Stepped K n (bounded xs lost) s p r
+    stepped_dead s r apart o same =
         let d = dead_in (eqb x₁ 0) (eqb y₁ 0) u v hu hv apart in
-        stepped_out m pushed r (grow_none G X F p part xs (lets 0 (omega arith) ∙ d.0) (lets 1 (omega arith) ∙ d.1)) o
+        subst⁻¹ (λ (b : Bool). Stepped K n (bounded xs lost) (bounded s.stack b) p r) same (stepped_out s.stack r (grow_none G X F p part xs (lets 0 (omega arith) ∙ d.0) (lets 1 (omega arith) ∙ d.1)) o)
 
-    pub stepped_one : (f : ℕ → Key) (t : ℕ) (kt r : Key) → (eqb x₁ 0 && eqb y₁ 0) ≡ false → (not (eqb x₁ 0) && (not (eqb y₁ 0) && not (eqb u v))) ≡ false → t ≡ cond (eqb u 0) v 1
-        → kt ≡ G (flag t) p → placed kt xs ≡ r ∷ listed f k → Stepped K n f₀ f k k false p r
-    stepped_one f t kt r some apart et ek out =
-        let fits = room (grow K p xs) (omega (arith, ap length grown, placed_length kt xs, listed_length f₀ k)) in
-        stepped f k false r few fits.0 (fits.1 ∙ grown ∙ out)
+    pub stepped_one : (s : Bounded Key) (t : ℕ) (kt : Key) (r : Path) → (eqb x₁ 0 && eqb y₁ 0) ≡ false → (not (eqb x₁ 0) && (not (eqb y₁ 0) && not (eqb u v))) ≡ false → t ≡ cond (eqb u 0) v 1
+        → kt ≡ G (flag t) p → placed kt xs ≡ path_key r ∷ s.stack → s.any_pushed_out ≡ lost → Stepped K n (bounded xs lost) s p (Some r)
+    stepped_one s t kt r some apart et ek out same =
+        let fits = room (grow K p xs) (omega (arith, ap length grown, placed_length kt xs, stands.few)) in
+        stepped s.stack s.any_pushed_out r (same ∙ fits.0) (fits.1 ∙ grown ∙ out)
       where
         grown : grow K p xs ≡ placed kt xs
         grown =
-            let one = asked_in x₁ y₁ b u v t eu ev hu hv some apart et in
+            let one = asked_in x₁ y₁ p.bits u v t eu ev hu hv some apart et in
             grow_one G X F p part (flag t) (flag (1 - t)) xs (lets t one.0 ∙ one.1) (lets (1 - t) (omega arith) ∙ one.2) (flag_other t (1 - t) one.0 refl)
             ∙ ap (λ (z : Key). placed z xs) (sym ek)
 
@@ -249,40 +211,38 @@ module _ (n : ℕ) (soft left right : List ℕ) (table : List ℤ) (g : Given n 
   unfolding crowded parity
   crowded_is = go (eqb k 63) refl (eqb x₁ 0 && eqb y₁ 0) refl
     where
-      hu : parity x₁ (b * 2) < 2
+      hu : parity x₁ (p.bits * 2) < 2
       hu = omega arith
 
-      hv : parity y₁ (b * 2) < 2
+      hv : parity y₁ (p.bits * 2) < 2
       hv = omega arith
 
       both : (eqb x₁ 0 && eqb y₁ 0) ≡ true → length (grow K p xs) ≡ k + 2
-      both h = ap length (grow_both G X F p part true false xs ord (free h false) (free h true) true≢false) ∙ placed_length (G false p) (placed (G true p) xs) ∙ ap suc (placed_length (G true p) xs) ∙ two (length xs) (listed_length f₀ k)
+      both h = ap length (grow_both G X F p part true false xs stands.ordered (free h false) (free h true) true≢false) ∙ placed_length (G false p) (placed (G true p) xs) ∙ ap suc (placed_length (G true p) xs) ∙ two
         where
-          two : (i : ℕ) → i ≡ k → suc (suc i) ≡ k + 2
-          two i e = omega arith
+          two : suc (suc k) ≡ k + 2
+          two = omega arith
 
       one_at_most : (eqb x₁ 0 && eqb y₁ 0) ≡ false → length (grow K p xs) ≤ k + 1
-      one_at_most h = cases (not (eqb x₁ 0) && (not (eqb y₁ 0) && not (eqb (parity x₁ (b * 2)) (parity y₁ (b * 2))))) refl
+      one_at_most h = cases (not (eqb x₁ 0) && (not (eqb y₁ 0) && not (eqb (parity x₁ (p.bits * 2)) (parity y₁ (p.bits * 2))))) refl
         where
-          cases : (c : Bool) → (not (eqb x₁ 0) && (not (eqb y₁ 0) && not (eqb (parity x₁ (b * 2)) (parity y₁ (b * 2))))) ≡ c → length (grow K p xs) ≤ k + 1
+          cases : (c : Bool) → (not (eqb x₁ 0) && (not (eqb y₁ 0) && not (eqb (parity x₁ (p.bits * 2)) (parity y₁ (p.bits * 2))))) ≡ c → length (grow K p xs) ≤ k + 1
           cases true e =
-              let d = dead_in (eqb x₁ 0) (eqb y₁ 0) (parity x₁ (b * 2)) (parity y₁ (b * 2)) hu hv e in
+              let d = dead_in (eqb x₁ 0) (eqb y₁ 0) (parity x₁ (p.bits * 2)) (parity y₁ (p.bits * 2)) hu hv e in
               omega (
                 arith,
-                ap length (grow_none G X F p part xs (lets (parity x₁ (b * 2)) (parity y₁ (b * 2)) refl refl hu hv 0 (omega arith) ∙ d.0) (lets (parity x₁ (b * 2)) (parity y₁ (b * 2)) refl refl hu hv 1 (omega arith) ∙ d.1)),
-                listed_length f₀ k,
+                ap length (grow_none G X F p part xs (lets (parity x₁ (p.bits * 2)) (parity y₁ (p.bits * 2)) refl refl hu hv 0 (omega arith) ∙ d.0) (lets (parity x₁ (p.bits * 2)) (parity y₁ (p.bits * 2)) refl refl hu hv 1 (omega arith) ∙ d.1)),
               )
           cases false e =
-              let one = cond (eqb (parity x₁ (b * 2)) 0) (parity y₁ (b * 2)) 1 in
-              let o = asked_in x₁ y₁ b (parity x₁ (b * 2)) (parity y₁ (b * 2)) one refl refl hu hv h e refl in
+              let one = cond (eqb (parity x₁ (p.bits * 2)) 0) (parity y₁ (p.bits * 2)) 1 in
+              let o = asked_in x₁ y₁ p.bits (parity x₁ (p.bits * 2)) (parity y₁ (p.bits * 2)) one refl refl hu hv h e refl in
               omega (
                 arith,
-                ap length (grow_one G X F p part (flag one) (flag (1 - one)) xs (lets (parity x₁ (b * 2)) (parity y₁ (b * 2)) refl refl hu hv one o.0 ∙ o.1) (lets (parity x₁ (b * 2)) (parity y₁ (b * 2)) refl refl hu hv (1 - one) (omega arith) ∙ o.2) (flag_other one (1 - one) o.0 refl)),
+                ap length (grow_one G X F p part (flag one) (flag (1 - one)) xs (lets (parity x₁ (p.bits * 2)) (parity y₁ (p.bits * 2)) refl refl hu hv one o.0 ∙ o.1) (lets (parity x₁ (p.bits * 2)) (parity y₁ (p.bits * 2)) refl refl hu hv (1 - one) (omega arith) ∙ o.2) (flag_other one (1 - one) o.0 refl)),
                 placed_length (G (flag one) p) xs,
-                listed_length f₀ k,
               )
 
       go : (c : Bool) → eqb k 63 ≡ c → (d : Bool) → (eqb x₁ 0 && eqb y₁ 0) ≡ d → ltb 64 (length (grow K p xs)) ≡ (c && d)
-      go false e d h = le-ltb 64 (length (grow K p xs)) (omega (arith, grow_length K p xs, listed_length f₀ k, eqb-false k 63 e))
+      go false e d h = le-ltb 64 (length (grow K p xs)) (omega (arith, grow_length K p xs, eqb-false k 63 e))
       go true e true h = lt-ltb 64 (length (grow K p xs)) (omega (arith, both h, eqb-true k 63 e))
       go true e false h = le-ltb 64 (length (grow K p xs)) (omega (arith, one_at_most h, eqb-true k 63 e))

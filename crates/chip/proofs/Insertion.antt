@@ -7,17 +7,15 @@ use mathlib.Core.Bool.{Bool, true, false, cond}
 use mathlib.Core.List.{List, [], ◌∷◌}
 use mathlib.Core.Logic.{◌⊎◌, inl, inr}
 use mathlib.Core.Path.{◌≡◌, refl, sym, ap, ap₂, ◌∙◌, subst, subst⁻¹}
-use lib.IntN.{ℤ, pos}
-use lib.ListN.{get_or, set, take}
+use lib.ListN.{take}
 use Rattle.paths.specs.Stack.{insert}
 use Rattle.paths.proofs.Booleans.{not_both}
 use Rattle.heap.specs.Heap.{Put}
 use Rattle.heap.specs.Holds.{AllAfter, Ordered}
-use Rattle.trellis.specs.Keys.{Key, key, key_before}
-use Rattle.stack.specs.Places.{at, Upto}
+use Rattle.trellis.specs.Keys.{Key, key_before}
+use Rattle.stack.specs.Places.{Upto}
 use Rattle.stack.proofs.KeyOrder.{upto_trans}
-use Rattle.stack.proofs.KeyWays.{put_at}
-use Rattle.chip.specs.Places.{Places, listed, ordering, placed}
+use Rattle.chip.specs.Places.{listed, ordering, placed}
 
 -- ---- lists of places
 
@@ -106,30 +104,22 @@ moved_next f₀ f f' x i n some m e put =
     passed' k a b (yes q) = ap (λ (j : ℕ). key_before (f₀ j) x) q ∙ sym (ap (λ (y : Key). key_before y x) (m.low (i - 1) (omega arith))) ∙ e
     passed' k a b (no q) = m.passed k (omega arith) b
 
-module _ (f₀ : ℕ → Key) (s : List ℤ) (l b : List ℕ) (x : Key) (i n : ℕ) (places : Places s l b) (fits : n < 64) (m : Moved f₀ (at s l b) x i n) where
-  pub moved_step : (z : ℤ) → 0 < i → z ≡ get_or s (i - 1) (pos 0) → key_before (key z (get_or l (i - 1) 0) (get_or b (i - 1) 0)) x ≡ true
-      → Moved f₀ (at (set s i z) (set l i (get_or l (i - 1) 0)) (set b i (get_or b (i - 1) 0))) x (i - 1) n
-  moved_step z some e h =
-      let q : key z (get_or l (i - 1) 0) (get_or b (i - 1) 0) ≡ at s l b (i - 1) = λ t. record { sum = e t; len = get_or l (i - 1) 0; bits = get_or b (i - 1) 0 } in
-      moved_next f₀ (at s l b) _ x i n some m (subst (λ (y : Key). key_before y x ≡ true) q h)
-      (subst (λ (y : Key). Put (at s l b) (at (set s i z) (set l i (get_or l (i - 1) 0)) (set b i (get_or b (i - 1) 0))) i y) q (put_at s l b i z _ _ places (omega (arith, m.within))))
+module _ (f₀ f : ℕ → Key) (x : Key) (i n : ℕ) (m : Moved f₀ f x i n) where
+  pub moved_step : (g : ℕ → Key) (y : Key) → 0 < i → y ≡ f (i - 1) → key_before y x ≡ true → Put f g i y → Moved f₀ g x (i - 1) n
+  moved_step g y some e h put = moved_next f₀ f g x i n some m (subst (λ (z : Key). key_before z x ≡ true) e h) (subst (λ (z : Key). Put f g i z) e put)
 
+  -- no path is below, or the one below does not stand before x
   abbrev Stopped : Type 0
-  Stopped = (i ≡ 0) ⊎ ((z : ℤ) × (z ≡ get_or s (i - 1) (pos 0)) × (key_before (key z (get_or l (i - 1) 0) (get_or b (i - 1) 0)) x ≡ false))
+  Stopped = (i ≡ 0) ⊎ ((y : Key) × (y ≡ f (i - 1)) × (key_before y x ≡ false))
 
-  pub moved_end : Stopped → listed (at (set s i x.sum) (set l i x.len) (set b i x.bits)) (n + 1) ≡ placed x (listed f₀ n)
-  moved_end st =
+  pub moved_end : (g : ℕ → Key) → Put f g i x → Stopped → listed g (n + 1) ≡ placed x (listed f₀ n)
+  moved_end g put st =
       rw add-one
-      (listed_insert f₀ _ x i n m.within (λ k h. put.there k (omega arith) ∙ m.low k h) put.here (λ k a c. put.there (suc k) (omega arith) ∙ m.high k a c) m.passed (stop st))
+      (listed_insert f₀ g x i n m.within (λ k h. put.there k (omega arith) ∙ m.low k h) put.here (λ k a c. put.there (suc k) (omega arith) ∙ m.high k a c) m.passed (stop st))
     where
-      put : Put (at s l b) (at (set s i x.sum) (set l i x.len) (set b i x.bits)) i x
-      put = put_at s l b i x.sum x.len x.bits places (omega (arith, m.within))
-
       stop : Stopped → 0 < i → key_before (f₀ (i - 1)) x ≡ false
       stop (inl e) some = absurd (omega arith)
-      stop (inr (z, e, h)) some =
-          let q : key z (get_or l (i - 1) 0) (get_or b (i - 1) 0) ≡ at s l b (i - 1) = λ t. record { sum = e t; len = get_or l (i - 1) 0; bits = get_or b (i - 1) 0 } in
-          sym (ap (λ (y : Key). key_before y x) (q ∙ m.low (i - 1) (omega arith))) ∙ h
+      stop (inr (y, e, h)) some = sym (ap (λ (z : Key). key_before z x) (e ∙ m.low (i - 1) (omega arith))) ∙ h
 
 -- ---- from the last on
 
@@ -183,34 +173,27 @@ placed_last f x n o e =
     sym (cut_shifted x f n)
     ∙ ap (take n) (listed_insert f (shifted x f) x 0 n (omega arith) (λ k h. absurd (omega arith)) refl (λ k a b. refl) (λ k a b. before_above f n x o 0 k e a b) (λ h. absurd (omega arith)))
 
-module _ (f₀ : ℕ → Key) (s : List ℤ) (l b : List ℕ) (x : Key) (i n : ℕ) (places : Places s l b) (fits : n < 64) (m : Lowered f₀ (at s l b) x i n) where
-  pub lowered_step : (z : ℤ) → i + 1 < n → z ≡ get_or s (i + 1) (pos 0) → key_before (key z (get_or l (i + 1) 0) (get_or b (i + 1) 0)) x ≡ false
-      → Lowered f₀ (at (set s i z) (set l i (get_or l (i + 1) 0)) (set b i (get_or b (i + 1) 0))) x (i + 1) n
-  lowered_step z some e h =
-      let q : key z (get_or l (i + 1) 0) (get_or b (i + 1) 0) ≡ at s l b (i + 1) = λ t. record { sum = e t; len = get_or l (i + 1) 0; bits = get_or b (i + 1) 0 } in
-      lowered_next f₀ (at s l b) _ x i n some m (subst (λ (y : Key). key_before y x ≡ false) q h)
-      (subst (λ (y : Key). Put (at s l b) (at (set s i z) (set l i (get_or l (i + 1) 0)) (set b i (get_or b (i + 1) 0))) i y) q (put_at s l b i z _ _ places (omega (arith, m.within))))
+module _ (f₀ f : ℕ → Key) (x : Key) (i n : ℕ) (m : Lowered f₀ f x i n) where
+  pub lowered_step : (g : ℕ → Key) (y : Key) → i + 1 < n → y ≡ f (i + 1) → key_before y x ≡ false → Put f g i y → Lowered f₀ g x (i + 1) n
+  lowered_step g y some e h put = lowered_next f₀ f g x i n some m (subst (λ (z : Key). key_before z x ≡ false) e h) (subst (λ (z : Key). Put f g i z) e put)
 
+  -- no path is above, or the one above stands before x
   abbrev Ended : Type 0
-  Ended = (n ≤ i + 1) ⊎ ((z : ℤ) × (z ≡ get_or s (i + 1) (pos 0)) × (key_before (key z (get_or l (i + 1) 0) (get_or b (i + 1) 0)) x ≡ true))
+  Ended = (n ≤ i + 1) ⊎ ((y : Key) × (y ≡ f (i + 1)) × (key_before y x ≡ true))
 
-  pub lowered_end : Ordered Upto (listed f₀ n) → Ended → listed (at (set s i x.sum) (set l i x.len) (set b i x.bits)) n ≡ take n (placed x (listed f₀ n))
+  pub lowered_end : (g : ℕ → Key) → Put f g i x → Ordered Upto (listed f₀ n) → Ended → listed g n ≡ take n (placed x (listed f₀ n))
   unfolding shifted
-  lowered_end o st =
-      sym (cut_shifted (f₀ 0) _ n)
+  lowered_end g put o st =
+      sym (cut_shifted (f₀ 0) g n)
       ∙ ap (take n)
-      (listed_insert f₀ (shifted (f₀ 0) (at (set s i x.sum) (set l i x.len) (set b i x.bits))) x (suc i) n (omega (arith, m.within)) low put.here
+      (listed_insert f₀ (shifted (f₀ 0) g) x (suc i) n (omega (arith, m.within)) low put.here
       (λ k a c. put.there k (omega arith) ∙ m.high k (omega arith) c) (λ k a c. above st k a c) (λ h. let e : suc i - 1 ≡ i = omega arith in subst⁻¹ (λ (k : ℕ). key_before (f₀ k) x ≡ false) e (m.passed i (omega arith))))
     where
-      put : Put (at s l b) (at (set s i x.sum) (set l i x.len) (set b i x.bits)) i x
-      put = put_at s l b i x.sum x.len x.bits places (omega (arith, m.within))
-
-      low : (k : ℕ) → k < suc i → shifted (f₀ 0) (at (set s i x.sum) (set l i x.len) (set b i x.bits)) k ≡ f₀ k
+      low : (k : ℕ) → k < suc i → shifted (f₀ 0) g k ≡ f₀ k
       low zero h = refl
       low (suc k) h = put.there k (omega arith) ∙ m.low k (omega arith)
 
       above : Ended → (k : ℕ) → suc i ≤ k → k < n → key_before (f₀ k) x ≡ true
       above (inl e) k a c = absurd (omega arith)
-      above (inr (z, e, h)) k a c =
-          let q : key z (get_or l (i + 1) 0) (get_or b (i + 1) 0) ≡ at s l b (i + 1) = λ t. record { sum = e t; len = get_or l (i + 1) 0; bits = get_or b (i + 1) 0 } in
-          before_above f₀ n x o (i + 1) k (sym (ap (λ (y : Key). key_before y x) (q ∙ m.high (i + 1) (omega arith) (omega arith))) ∙ h) (omega arith) c
+      above (inr (y, e, h)) k a c =
+          before_above f₀ n x o (i + 1) k (sym (ap (λ (z : Key). key_before z x) (e ∙ m.high (i + 1) (omega arith) (omega arith))) ∙ h) (omega arith) c

@@ -1,10 +1,9 @@
 -- The loop of the search with 64 places: where it stands, and what the run of the specification does from there. Assumes nothing.
-use Prim.Native.Nat.{ℕ, suc, ◌+◌, ◌-◌, ◌≤◌, ◌<◌}
+use Prim.Native.Nat.{ℕ, suc, ◌+◌, ◌-◌, ◌<◌}
 use native.Mathlib.Omega.{arith}
-use mathlib.Core.Bool.{Bool, false, cond, ◌||◌}
+use mathlib.Core.Bool.{Bool, true, false, cond, ◌||◌, true≢false}
 use mathlib.Core.List.{List, [], ◌∷◌}
-use mathlib.Core.Logic.{◌⊎◌, inl, inr}
-use mathlib.Core.Path.{◌≡◌, refl, sym, ap, ap₂, ◌∙◌, subst}
+use mathlib.Core.Path.{◌≡◌, refl, sym, ap, ap₂, ◌∙◌}
 use lib.Dec.{eqb}
 use lib.IntN.{ℤ, pos}
 use lib.ListN.{take}
@@ -12,146 +11,129 @@ use borrow.Author.Tests.{eq-eqb, ne_eqb}
 use mir.Syntax.{w16}
 use mir.Val.{SFits, to_z, of_z}
 use mir.Facts.{to_z-of_z}
+use Rattle.std.specs.Int.{int_min}
 use Rattle.paths.specs.Low.{lower}
 use Rattle.paths.specs.Stack.{Nodes, extend, grow}
 use Rattle.paths.specs.Search.{answer}
 use Rattle.paths.specs.Keys.{WithLow}
-use Rattle.paths.specs.Bounded.{BoundedResult, ended, crowded, run_keys_within}
-use Rattle.heap.specs.Heap.{Every}
-use Rattle.heap.specs.Holds.{Ordered}
+use Rattle.paths.specs.Bounded.{Bounded, bounded, BoundedResult, ended, crowded, run_keys_within}
 use Rattle.trellis.specs.Values.{Values}
 use Rattle.trellis.specs.Keys.{Key, key, none_taken}
 use Rattle.trellis.specs.Bounded.{key_search_within}
-use Rattle.stack.specs.Places.{Upto}
+use Rattle.std.specs.Prelude.{Option, None, Some}
+use Rattle.paths.specs.Lists.{Mem}
+use Rattle.stack.specs.declared.Path.{Path}
+use Rattle.stack.specs.Places.{path_key}
 use Rattle.extension.specs.Steps.{Given, TableOf, Good, Held, table_nodes}
 use Rattle.extension.proofs.Advances.{good_none}
 use Rattle.search.proofs.Continues.{same_nodes}
-use Rattle.chip.specs.Places.{listed, Stepped}
+use Rattle.chip.specs.Places.{Stepped}
 use Rattle.search.specs.Outcomes as search
-use Rattle.search.specs.declared.SearchOutcome.{SearchOutcome}
-use Rattle.search.specs.declared.SearchOutcome.TheVariants.{Found, Spent}
+use Rattle.search.specs.declared.Found.{Found}
 use Rattle.chip.specs.Outcomes.{taken, outcome_of}
 use Rattle.chip.specs.declared.ChipOutcome.{ChipOutcome}
 
 -- a word, or none, after c paths
-abbrev pub ended_with : SearchOutcome → ℕ → Bool → ChipOutcome
+abbrev pub ended_with : Option Found → ℕ → Bool → ChipOutcome
 ended_with found c lost = record { found = found; count = c; pushed = lost }
+
+-- the lowest sum so far, as the standard library has it
+pub lower_of : (a b z : ℤ) → SFits w16 b → SFits w16 z → z ≡ int_min a (to_z w16 (of_z w16 b)) → to_z w16 (of_z w16 z) ≡ lower a b
+unfolding lower
+lower_of a b z fb fz e = to_z-of_z fz ∙ e ∙ ap (int_min a) (to_z-of_z fb)
+
+-- a path was pushed out before, or one is now, or none
+pub pushed_before : (a b x : Bool) → a ≡ b → a ≡ true → a ≡ (b || x)
+pushed_before a true x e t = t
+pushed_before a false x e t = absurd (true≢false (sym t ∙ e))
+
+pub pushed_now : (a b x y : Bool) → a ≡ b → a ≡ false → y ≡ x → y ≡ (b || x)
+pushed_now a true x y e t k = absurd (true≢false (sym e ∙ t))
+pushed_now a false x y e t k = k
 
 abbrev pub root : Key
 root = key (pos 0) 0 0
 
 -- the run of the specification when count-many were taken, p the last, and the others are on the stack
-abbrev pub run_from : Nodes Key → ℕ → ℕ → ℤ → Bool → Key → List Key → BoundedResult (WithLow Key)
-run_from N fuel count low lost p others = run_keys_within N 64 fuel count low (lost || crowded N 64 (grow N p others)) (take 64 (grow N p others))
+abbrev pub run_from : Nodes Key → ℕ → ℕ → ℤ → Key → Bounded Key → BoundedResult (WithLow Key)
+run_from N fuel count low p s = run_keys_within N 64 fuel count low (s.any_pushed_out || crowded N 64 (grow N p s.stack)) (take 64 (grow N p s.stack))
 
 -- the run from the start
 abbrev pub whole_run : Nodes Key → ℕ → BoundedResult (WithLow Key)
-whole_run N limit = run_from N limit 0 none_taken false root []
+whole_run N limit = run_from N limit 0 none_taken root (bounded [] false)
 
--- count-many are taken, p the last, which is not full; the others stand in f
-pub record Going (N : Nodes Key) (size limit : ℕ) (f : ℕ → Key) (paths count : ℕ) (lost : Bool) (p : Key) (low : ℤ) : Type 0 where
-  pub within : count ≤ limit
-  pub few : paths ≤ 63
+-- count-many are taken, p the last, which is not full; the others are on the stack
+pub record Going (N : Nodes Key) (size : ℕ) (s : Bounded Key) (count : ℕ) (p : Key) (low : ℤ) : Type 0 where
   pub part : p.len < size
   pub good : Good size p
-  pub held : Every (Held size) f paths
-  pub ordered : Ordered Upto (listed f paths)
-  pub same : (fuel : ℕ) → whole_run N (fuel + count) ≡ run_from N fuel count low lost p (listed f paths)
-
--- the flag and the lowest sum as the code hands them on
-pub going_at : (N : Nodes Key) (n limit : ℕ) (f : ℕ → Key) (m c : ℕ) (lost lost' : Bool) (p : Key) (low z : ℤ) → lost' ≡ lost → SFits w16 z → z ≡ low
-    → Going N n limit f m c lost p low → Going N n limit f m c lost' p (to_z w16 (of_z w16 z))
-going_at N n limit f m c lost lost' p low z e fits is g =
-    subst (λ (y : ℤ). Going N n limit f m c lost' p y) (sym is ∙ sym (to_z-of_z fits)) (subst (λ (b : Bool). Going N n limit f m c b p low) (sym e) g)
+  pub held : (k : Key) → Mem k s.stack → Held size k
+  pub same : (fuel : ℕ) → whole_run N (fuel + count) ≡ run_from N fuel count low p s
 
 module _ (n : ℕ) (table : List ℤ) (soft left right : List ℕ) (limit : ℕ) where
   abbrev N : Nodes Key
   N = table_nodes n table soft left right
 
-  pub going_start : 0 < n → (f : ℕ → Key) → Going N n limit f 0 0 false root none_taken
-  unfolding listed
-  going_start some f =
+  pub going_start : 0 < n → Going N n (bounded [] false) 0 root none_taken
+  going_start some =
       record {
-        within = omega arith;
-        few = omega arith;
         part = some;
         good = good_none n;
-        held = λ j h. absurd (omega arith);
-        ordered = tt;
+        held = λ k m. absurd m;
         same = λ fuel. let e : fuel + 0 ≡ fuel = omega arith in ap (whole_run N) e;
       }
 
-  module _ (f f' : ℕ → Key) (m m' c : ℕ) (lost pushed : Bool) (p y : Key) (z : ℤ) (h : c < limit) (d : Stepped N n f f' m m' pushed p y) (g : Going N n limit f m c lost p z) where
-    abbrev Ways : Type 0
-    Ways = ((y.len ≡ 0) × (take 64 (grow N p (listed f m)) ≡ [])) ⊎ ((0 < y.len) × (take 64 (grow N p (listed f m)) ≡ y ∷ listed f' m'))
-
-    took : (y.len ≡ 0 → ⊥) → take 64 (grow N p (listed f m)) ≡ y ∷ listed f' m'
-    took ne = go d.step
-      where
-        go : Ways → take 64 (grow N p (listed f m)) ≡ y ∷ listed f' m'
-        go (inl e) = absurd (ne e.0)
-        go (inr e) = e.1
-
-    gone : y.len ≡ 0 → take 64 (grow N p (listed f m)) ≡ []
-    gone none = go d.step
-      where
-        go : Ways → take 64 (grow N p (listed f m)) ≡ []
-        go (inl e) = e.1
-        go (inr e) = absurd (omega (arith, e.0))
-
+  module _ (s s' : Bounded Key) (c : ℕ) (p : Key) (z : ℤ) (h : c < limit) (g : Going N n s c p z) where
     -- the run after the step
-    run_step : (l : List Key) → take 64 (grow N p (listed f m)) ≡ l → (fuel : ℕ) → whole_run N (suc fuel + c) ≡ run_keys_within N 64 (suc fuel) c z (lost || pushed) l
-    run_step l e fuel = g.same (suc fuel) ∙ ap₂ (λ (b : Bool) (l : List Key). run_keys_within N 64 (suc fuel) c z (lost || b) l) (sym d.flag) e
-
-    abbrev low : ℤ
-    low = lower z y.sum
-
-    -- and after y is taken
-    abbrev next : ℕ → Bool → BoundedResult (WithLow Key)
-    next fuel full = cond full (ended (answer (record { key = y; low = low }) (suc c)) (lost || pushed)) (run_from N fuel (suc c) low (lost || pushed) y (listed f' m'))
-
-    run_taken : (y.len ≡ 0 → ⊥) → (fuel : ℕ) → whole_run N (suc fuel + c) ≡ next fuel (eqb y.len n)
-    unfolding run_keys_within
-    run_taken ne fuel = run_step (y ∷ listed f' m') (took ne) fuel
-
-    plus_one : suc c ≡ c + 1
-    plus_one = omega arith
-
-    pub going_next : (y.len ≡ 0 → ⊥) → (y.len ≡ n → ⊥) → Going N n limit f' m' (c + 1) (lost || pushed) y low
-    going_next ne nf =
-        record {
-          within = omega arith;
-          few = d.few;
-          part = omega (arith, d.good.short, nf);
-          good = d.good;
-          held = d.held;
-          ordered = d.ordered;
-          same = λ fuel.
-              let e : fuel + (c + 1) ≡ suc fuel + c = omega arith in
-              ap (whole_run N) e ∙ run_taken ne fuel ∙ ap (next fuel) (ne_eqb y.len n nf)
-              ∙ ap (λ (i : ℕ). run_from N fuel i low (lost || pushed) y (listed f' m')) plus_one;
-        }
+    run_step : (y : Option Path) → Stepped N n s s' p y → (l : List Key) → take 64 (grow N p s.stack) ≡ l → (fuel : ℕ) → whole_run N (suc fuel + c) ≡ run_keys_within N 64 (suc fuel) c z s'.any_pushed_out l
+    run_step y d l e fuel = g.same (suc fuel) ∙ ap₂ (run_keys_within N 64 (suc fuel) c z) (sym d.flag) e
 
     whole : whole_run N limit ≡ whole_run N (suc (limit - suc c) + c)
     whole = let e : limit ≡ suc (limit - suc c) + c = omega arith in ap (whole_run N) e
 
-    pub found_is : (y.len ≡ 0 → ⊥) → y.len ≡ n → ended_with (Found y.bits (c + 1) low) (c + 1) (lost || pushed) ≡ outcome_of (whole_run N limit)
-    unfolding outcome_of taken search.outcome_of
-    found_is ne full =
-        ap (λ (i : ℕ). ended_with (Found y.bits i low) i (lost || pushed)) (sym plus_one)
-        ∙ sym (ap outcome_of (whole ∙ run_taken ne (limit - suc c) ∙ ap (next (limit - suc c)) (eq-eqb y.len n full)))
-
-    pub emptied_is : y.len ≡ 0 → ended_with Spent c (lost || pushed) ≡ outcome_of (whole_run N limit)
+    pub emptied_is : Stepped N n s s' p None → ended_with None c s'.any_pushed_out ≡ outcome_of (whole_run N limit)
     unfolding run_keys_within outcome_of taken search.outcome_of
-    emptied_is none = sym (ap outcome_of (whole ∙ run_step [] (gone none) (limit - suc c)))
+    emptied_is d = sym (ap outcome_of (whole ∙ run_step None d [] d.step.0 (limit - suc c)))
 
-  pub spent_is : (f : ℕ → Key) (m c : ℕ) (lost last : Bool) (p : Key) (z : ℤ) → limit ≤ c → Going N n limit f m c lost p z → last ≡ crowded N 64 (grow N p (listed f m))
-      → ended_with Spent c (lost || last) ≡ outcome_of (whole_run N limit)
+    module _ (y : Path) (d : Stepped N n s s' p (Some y)) where
+      abbrev low : ℤ
+      low = lower z y.sum
+
+      -- the run after y is taken
+      abbrev next : ℕ → Bool → BoundedResult (WithLow Key)
+      next fuel full = cond full (ended (answer (record { key = path_key y; low = low }) (suc c)) s'.any_pushed_out) (run_from N fuel (suc c) low (path_key y) s')
+
+      run_taken : (fuel : ℕ) → whole_run N (suc fuel + c) ≡ next fuel (eqb y.len n)
+      unfolding run_keys_within
+      run_taken fuel = run_step (Some y) d (path_key y ∷ s'.stack) d.step fuel
+
+      plus_one : suc c ≡ c + 1
+      plus_one = omega arith
+
+      pub going_next : (y.len ≡ n → ⊥) → Going N n s' (c + 1) (path_key y) low
+      going_next nf =
+          record {
+            part = omega (arith, d.taken.good.short, nf);
+            good = d.taken.good;
+            held = d.held;
+            same = λ fuel.
+                let e : fuel + (c + 1) ≡ suc fuel + c = omega arith in
+                ap (whole_run N) e ∙ run_taken fuel ∙ ap (next fuel) (ne_eqb y.len n nf)
+                ∙ ap (λ (i : ℕ). run_from N fuel i low (path_key y) s') plus_one;
+          }
+
+      pub found_is : y.len ≡ n → ended_with (Some (record { word = y.bits; count = c + 1; low = low })) (c + 1) s'.any_pushed_out ≡ outcome_of (whole_run N limit)
+      unfolding outcome_of taken search.outcome_of
+      found_is full =
+          ap (λ (i : ℕ). ended_with (Some (record { word = y.bits; count = i; low = low })) i s'.any_pushed_out) (sym plus_one)
+          ∙ sym (ap outcome_of (whole ∙ run_taken (limit - suc c) ∙ ap (next (limit - suc c)) (eq-eqb y.len n full)))
+
+  pub spent_is : (s : Bounded Key) (c : ℕ) (lost : Bool) (p : Key) (z : ℤ) → c ≡ limit → Going N n s c p z → lost ≡ (s.any_pushed_out || crowded N 64 (grow N p s.stack))
+      → ended_with None limit lost ≡ outcome_of (whole_run N limit)
   unfolding run_keys_within outcome_of taken search.outcome_of
-  spent_is f m c lost last p z h g q = ap (λ (b : Bool). ended_with Spent c (lost || b)) q ∙ sym (ap outcome_of (ap (whole_run N) all ∙ g.same 0))
+  spent_is s c lost p z e g q = ap₂ (ended_with None) (sym e) q ∙ sym (ap outcome_of (ap (whole_run N) all ∙ g.same 0))
     where
       all : limit ≡ 0 + c
-      all = omega (arith, g.within)
+      all = omega arith
 
   root_grows : 0 < n → grow N root [] ≡ extend N root []
   unfolding grow

@@ -1,26 +1,25 @@
 -- Keys at places as a list in the order: one goes in, the first comes out. Assumes nothing.
 use Prim.Native.Nat.{ℕ, zero, suc, ◌+◌, ◌-◌, ◌≤◌, ◌<◌}
 use native.Mathlib.Omega.{arith}
-use native.Mathlib.Decide.{ℕ_discrete}
-use mathlib.Core.Bool.{Bool, true, false, cond}
+use mathlib.Core.Bool.{Bool, true, false, cond, ◌||◌}
 use mathlib.Core.List.{List, [], ◌∷◌}
 use mathlib.Core.Logic.{◌⊎◌, inl, inr}
 use mathlib.Core.Path.{◌≡◌, refl, sym, ap, ap₂, ◌∙◌, subst}
 use lib.Dec.{eqb}
 use borrow.Author.Tests.{eq-eqb, ne_eqb}
-use lib.IntN.{pos}
 use lib.ListN.{length, take}
 use lib.Seq.{take_all}
-use Rattle.paths.specs.Lists.{Mem}
 use Rattle.paths.specs.Stack.{insert}
+use Rattle.paths.specs.Bounded.{Bounded, bounded}
+use Rattle.paths.proofs.Booleans.{or_false}
 use Rattle.paths.proofs.Stack.{insert_length}
-use Rattle.heap.specs.Holds.{weigh_list, Ordered}
+use Rattle.heap.specs.Holds.{weigh_list, AllAfter, Ordered}
 use Rattle.heap.proofs.Lists.{one_ordered_list}
-use Rattle.trellis.specs.Keys.{Key, key, key_before}
+use Rattle.trellis.specs.Keys.{Key, key_before}
 use Rattle.stack.specs.Places.{Upto}
 use Rattle.stack.proofs.KeyOrder.{key_dec, upto_same, upto_anti, upto_trans}
 use Rattle.extension.proofs.Growing.{ordered_insert, weigh_insert}
-use Rattle.chip.specs.Places.{listed, ordering, placed, Out}
+use Rattle.chip.specs.Places.{listed, ordering, placed, Standing}
 
 -- ---- lists of places
 
@@ -33,20 +32,11 @@ listed_last : (f : ℕ → Key) (n : ℕ) → 0 < n → listed f n ≡ f (n - 1)
 unfolding listed
 listed_last f n some = let e : n ≡ suc (n - 1) = omega arith in ap (listed f) e
 
-pub in_listed : (f : ℕ → Key) (n j : ℕ) → j < n → Mem (f j) (listed f n)
-unfolding listed
-in_listed f zero j h = absurd (omega arith)
-in_listed f (suc n) j h = go (ℕ_discrete j n) (in_listed f n j)
-  where
-    go : Dec (j ≡ n) → (j < n → Mem (f j) (listed f n)) → (f j ≡ f n) ⊎ Mem (f j) (listed f n)
-    go (yes e) ih = inl (ap f e)
-    go (no e) ih = inr (ih (omega arith))
+pub first_out : (f : ℕ → Key) (n : ℕ) (y : Key) → 0 < n → y ≡ f (n - 1) → listed f n ≡ y ∷ listed f (n - 1)
+first_out f n y some q = listed_last f n some ∙ ap (λ (z : Key). z ∷ listed f (n - 1)) (sym q)
 
-pub of_listed : (f : ℕ → Key) (n : ℕ) (z : Key) → Mem z (listed f n) → (j : ℕ) × (j < n) × (z ≡ f j)
-unfolding listed
-of_listed f zero z x' = elim x' [ ]
-of_listed f (suc n) z (inl e) = (n, omega arith, e)
-of_listed f (suc n) z (inr m) = let r = of_listed f n z m in (r.0, omega (arith, r.1), r.2)
+pub rest_ordered : (f : ℕ → Key) (n : ℕ) → 0 < n → Ordered Upto (listed f n) → Ordered Upto (listed f (n - 1))
+rest_ordered f n some o = (subst (Ordered Upto) (listed_last f n some) o).1
 
 -- ---- x goes in
 
@@ -82,37 +72,50 @@ pub placed_after : (r y : Key) (xs : List Key) → key_before r y ≡ true → p
 unfolding placed insert
 placed_after r y xs e = rw e
 
--- ---- what the small functions do
+-- ---- what the methods do
 
-pub settled_full : (f₀ f : ℕ → Key) (x y : Key) (n : ℕ) → n ≡ 63 → y ≡ x → listed f 63 ≡ take 63 (placed y (listed f₀ 63)) → listed f (cond (eqb n 63) 63 (n + 1)) ≡ take 63 (placed x (listed f₀ n))
-settled_full f₀ f x y n e q k =
-    ap (λ (b : Bool). listed f (cond b 63 (n + 1))) (eq-eqb n 63 e) ∙ k ∙ ap₂ (λ (z : Key) (m : ℕ). take 63 (placed z (listed f₀ m))) q (sym e)
+-- what the fields say of the list
+module _ (f : ℕ → Key) (n : ℕ) (lost : Bool) (s : Bounded Key) (e : bounded (listed f n) lost ≡ s) where
+  pub many : length s.stack ≡ n
+  many = ap (λ (b : Bounded Key). length b.stack) (sym e) ∙ listed_length f n
 
-pub settled_in : (f₀ f : ℕ → Key) (x y : Key) (n : ℕ) → n ≤ 63 → (n ≡ 63 → ⊥) → y ≡ x → listed f (n + 1) ≡ placed y (listed f₀ n) → listed f (cond (eqb n 63) 63 (n + 1)) ≡ take 63 (placed x (listed f₀ n))
-settled_in f₀ f x y n l ne q k =
-    ap (λ (b : Bool). listed f (cond b 63 (n + 1))) (ne_eqb n 63 ne) ∙ k ∙ ap (λ (z : Key). placed z (listed f₀ n)) q
-    ∙ sym (take_all 63 (placed x (listed f₀ n)) (omega (arith, placed_length x (listed f₀ n), listed_length f₀ n)))
+  pub standing_of : n ≤ 63 → Ordered Upto (listed f n) → Standing s.stack
+  standing_of few o = record { few = omega (arith, many); ordered = subst (λ (b : Bounded Key). Ordered Upto b.stack) e o }
 
-pub exchanged_none : (f : ℕ → Key) (n : ℕ) (x y : Key) → n ≡ 0 → y ≡ x → placed x (listed f n) ≡ y ∷ listed f n
+-- a list in the order that is cut
+pub ordered_take : (k : ℕ) (xs : List Key) → Ordered Upto xs → Ordered Upto (take k xs)
+ordered_take zero xs o = tt
+ordered_take (suc k) [] o = tt
+ordered_take (suc k) (x ∷ xs) o = (after k xs o.0, ordered_take k xs o.1)
+  where
+    after : (k : ℕ) (ys : List Key) → AllAfter Upto x ys → AllAfter Upto x (take k ys)
+    after zero ys a = tt
+    after (suc k) [] a = tt
+    after (suc k) (y ∷ ys) a = (a.0, after k ys a.1)
+
+-- the last of 63 is pushed out
+pub settled_full : (lost : Bool) (x : Key) (xs : List Key) → length xs ≡ 63 → bounded (take 63 (placed x xs)) true ≡ bounded (take 63 (placed x xs)) (lost || eqb (length xs) 63)
+settled_full lost x xs e = ap (bounded (take 63 (placed x xs))) (sym (ap (λ (b : Bool). lost || b) (eq-eqb (length xs) 63 e) ∙ or_true lost))
+  where
+    or_true : (b : Bool) → (b || true) ≡ true
+    or_true true = refl
+    or_true false = refl
+
+-- or there is a place
+pub settled_in : (lost : Bool) (x : Key) (xs : List Key) → length xs < 63 → bounded (placed x xs) lost ≡ bounded (take 63 (placed x xs)) (lost || eqb (length xs) 63)
+settled_in lost x xs l =
+    ap₂ bounded (sym (take_all 63 (placed x xs) (omega (arith, placed_length x xs)))) (sym (ap (λ (b : Bool). lost || b) (ne_eqb (length xs) 63 (omega arith)) ∙ or_false lost))
+
+pub exchanged_none : (f : ℕ → Key) (n : ℕ) (x : Key) → n ≡ 0 → placed x (listed f n) ≡ x ∷ listed f n
 unfolding placed insert listed
-exchanged_none f n x y e q = ap (λ (m : ℕ). placed x (listed f m)) e ∙ ap₂ (λ (z : Key) (m : ℕ). z ∷ listed f m) (sym q) (sym e)
+exchanged_none f n x e = ap (λ (m : ℕ). placed x (listed f m)) e ∙ ap (λ (m : ℕ). x ∷ listed f m) (sym e)
 
-pub exchanged_not : (f : ℕ → Key) (n : ℕ) (x y : Key) → 0 < n → key_before (f (n - 1)) x ≡ false → y ≡ x → placed x (listed f n) ≡ y ∷ listed f n
+pub exchanged_not : (f : ℕ → Key) (n : ℕ) (x : Key) → 0 < n → key_before (f (n - 1)) x ≡ false → placed x (listed f n) ≡ x ∷ listed f n
 unfolding placed insert
-exchanged_not f n x y some h q =
+exchanged_not f n x some h =
     ap (placed x) (listed_last f n some)
     ∙ ap (λ (b : Bool). cond b (f (n - 1) ∷ insert ordering x (listed f (n - 1))) (x ∷ f (n - 1) ∷ listed f (n - 1))) h
-    ∙ ap₂ (λ (z : Key) (l : List Key). z ∷ l) (sym q) (sym (listed_last f n some))
+    ∙ ap (λ (l : List Key). x ∷ l) (sym (listed_last f n some))
 
-pub exchanged_first : (f₀ f : ℕ → Key) (n : ℕ) (x y : Key) → 0 < n → key_before (f₀ (n - 1)) x ≡ true → y ≡ f₀ (n - 1) → listed f (n - 1 + 1) ≡ placed x (listed f₀ (n - 1)) → placed x (listed f₀ n) ≡ y ∷ listed f n
-unfolding placed
-exchanged_first f₀ f n x y some h q k =
-    let e : n - 1 + 1 ≡ n = omega arith in
-    ap (placed x) (listed_last f₀ n some) ∙ placed_after (f₀ (n - 1)) x (listed f₀ (n - 1)) h
-    ∙ ap₂ (λ (z : Key) (l : List Key). z ∷ l) (sym q) (sym k ∙ ap (listed f) e)
-
-pub out_none : (f : ℕ → Key) (n : ℕ) → n ≡ 0 → Out f n 0 false (key (pos 0) 0 0)
-out_none f n e = record { none_pushed = refl; next = inl ((e, refl, refl)) }
-
-pub out_first : (f : ℕ → Key) (n : ℕ) (y : Key) → 0 < n → y ≡ f (n - 1) → Out f n (n - 1) false y
-out_first f n y some q = record { none_pushed = refl; next = inr ((some, refl, listed_last f n some ∙ ap (λ (z : Key). z ∷ listed f (n - 1)) (sym q))) }
+pub exchanged_first : (f : ℕ → Key) (n : ℕ) (x y : Key) → 0 < n → y ≡ f (n - 1) → key_before y x ≡ true → placed x (listed f n) ≡ y ∷ placed x (listed f (n - 1))
+exchanged_first f n x y some q h = ap (placed x) (first_out f n y some q) ∙ placed_after y x (listed f (n - 1)) h

@@ -22,7 +22,8 @@ use Rattle.trellis.proofs.Bounded.{by_bits_within, key_search_within_is_the_sear
 use Rattle.trellis.proofs.Short.{searchable}
 use Rattle.extension.specs.Steps.{TableOf}
 use Rattle.search.specs.Outcomes.{TablesFor}
-use Rattle.search.specs.declared.SearchOutcome.{SearchOutcome}
+use Rattle.std.specs.Prelude.{Option}
+use Rattle.search.specs.declared.Found.{Found}
 use Rattle.search.proofs.ShortSearch.{level_table, level_not_above}
 use Rattle.search.proofs.ShortSearch as search
 use Rattle.chip.specs.Places.{Leading}
@@ -69,7 +70,7 @@ leading_tables i h left right table tables = leading_of (level_values i) table (
 
 by_number : (e : BoundedResult (WithLow Key)) → outcome_of e ≡ code_outcome (by_bits_within e)
 unfolding outcome_of code_outcome taken
-by_number e = ap₂ (λ (o : SearchOutcome) (c : ℕ). record { found = o; count = c; pushed = e.any_pushed_out }) (search.by_number e.result) (go e.result)
+by_number e = ap₂ (λ (o : Option Found) (c : ℕ). record { found = o; count = c; pushed = e.any_pushed_out }) (search.by_number e.result) (go e.result)
   where
     go : (o : SearchResult (WithLow Key)) → taken o ≡ taken (by_bits o)
     go (answer k c) = refl

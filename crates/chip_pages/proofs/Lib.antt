@@ -1,2 +1,1 @@
-pub mod ChipRows
-pub mod ChipLevels
+pub mod ChipColumns

@@ -9,19 +9,19 @@ pub fn write_columns(rows: &[[u8; 63]; 4], out: &mut [u8])
     requires { Rows rows.now × (length out.old ≡ 252) }
     ensures { out.new ≡ page_in_bytes short_page rows.now }
 {
-    let r0 = rows[0];
-    let r1 = rows[1];
-    let r2 = rows[2];
-    let r3 = rows[3];
-    let mut j: usize = 0;
-    while j < 63 {
-        let w = column::encode(r0[j] as u64, r1[j] as u64, r2[j] as u64, r3[j] as u64);
+    let [r0, r1, r2, r3] = rows;
+    for j in 0..63 {
+        let w = column::encode(
+            u64::from(r0[j]),
+            u64::from(r1[j]),
+            u64::from(r2[j]),
+            u64::from(r3[j]),
+        );
         let b = packing::column_bytes(w);
         let to = j * 4;
-        out[to] = b.b0;
-        out[to + 1] = b.b1;
-        out[to + 2] = b.b2;
-        out[to + 3] = b.b3;
-        j += 1;
+        out[to] = b[0];
+        out[to + 1] = b[1];
+        out[to + 2] = b[2];
+        out[to + 3] = b[3];
     }
 }

@@ -25,9 +25,7 @@ pub fn remainder(w: u64, k: usize, d: usize, g: u64) -> u64
     ensures { result ≡ remainder_of d g w }
 {
     let mut r = w;
-    let mut i = k;
-    while 0 < i {
-        i -= 1;
+    for i in (0..k).rev() {
         r = r ^ pick(g << i, r >> (d + i));
     }
     r
@@ -97,10 +95,8 @@ pub fn reimage(level: usize, column: u64) -> u64
     ensures { result ≡ reimaged short level column }
 {
     let mut w = column;
-    let mut i: usize = 3;
-    while level < i {
+    for i in (level + 1..4).rev() {
         w = w ^ level_word(i, w >> degree_of(i));
-        i -= 1;
     }
     w >> degree_of(level)
 }

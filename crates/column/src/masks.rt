@@ -55,16 +55,12 @@ pub fn level_masks(level: usize) -> [u64; 30]
     requires { level < 4 }
     ensures { MasksOf 30 (level_code short level) result }
 {
-    if level == 0 {
-        return F1;
+    match level {
+        0 => F1,
+        1 => F1_F3,
+        2 => F1_F3_F5,
+        _ => F1_F3_F5_F7,
     }
-    if level == 1 {
-        return F1_F3;
-    }
-    if level == 2 {
-        return F1_F3_F5;
-    }
-    F1_F3_F5_F7
 }
 
 // The masks of the first of a level's two supercodes.
@@ -72,10 +68,7 @@ pub fn left_masks(level: usize) -> [u64; 30]
     requires { level < 4 }
     ensures { MasksOf 30 (short.supercodes level).left result }
 {
-    if level < 2 {
-        return F1;
-    }
-    F1_F3
+    if level < 2 { F1 } else { F1_F3 }
 }
 
 // The masks of the second.
@@ -83,16 +76,12 @@ pub fn right_masks(level: usize) -> [u64; 30]
     requires { level < 4 }
     ensures { MasksOf 30 (short.supercodes level).right result }
 {
-    if level == 0 {
-        return NONE;
+    match level {
+        0 => NONE,
+        1 => F3,
+        2 => F5,
+        _ => F5_F7,
     }
-    if level == 1 {
-        return F3;
-    }
-    if level == 2 {
-        return F5;
-    }
-    F5_F7
 }
 
 // No masks: every path passes.

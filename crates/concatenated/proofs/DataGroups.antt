@@ -7,8 +7,6 @@ use native.Mathlib.Omega.{arith}
 use lib.ListN.{length, get_or, take, drop, set}
 use lib.Seq.{paste, length-paste, take-paste, take_all, take-suc}
 use Rattle.packing.specs.Packing.{joined, symbols_of, bytes_of}
-use Rattle.packing.specs.declared.Symbols.{Symbols}
-use Rattle.packing.specs.declared.Bytes.{Bytes}
 use Rattle.reedsolomon.specs.Search.{WordOf}
 use Rattle.concatenated.specs.Format.{short_page, short_roots, data_before}
 use Rattle.concatenated.specs.Data.{digits, data_symbols, data_bytes}
@@ -23,40 +21,40 @@ use Rattle.concatenated.proofs.Groups.{repacked_at, three_from, four_from, three
 
 -- the symbols of group g
 symbols_at : (bytes : List ℕ) (g k : ℕ) → length bytes ≡ 150 → g < 50 → k < 4
-    → let s = symbols_of (get_or bytes (g * 3) 0) (get_or bytes (g * 3 + 1) 0) (get_or bytes (g * 3 + 2) 0) in
-    get_or (data_symbols short_page bytes) (g * 4 + k) 0 ≡ get_or (s.s0 ∷ s.s1 ∷ s.s2 ∷ s.s3 ∷ []) k 0
+    → get_or (data_symbols short_page bytes) (g * 4 + k) 0 ≡ get_or (symbols_of (get_or bytes (g * 3) 0 ∷ get_or bytes (g * 3 + 1) 0 ∷ get_or bytes (g * 3 + 2) 0 ∷ [])) k 0
 symbols_at bytes g k e h l =
     repacked_at 256 3 64 4 50 bytes g k h l
     ∙ ap (λ (t : List ℕ). get_or (digits 64 4 (joined 256 0 t)) k 0) (three_from bytes (g * 3) (omega (arith, e, h)))
-    ∙ ap (λ (t : List ℕ). get_or t k 0) (group_of_bytes (get_or bytes (g * 3) 0) (get_or bytes (g * 3 + 1) 0) (get_or bytes (g * 3 + 2) 0))
+    ∙ ap (λ (t : List ℕ). get_or t k 0) (group_of_bytes _)
 
-pub symbols_more : (bytes out : List ℕ) (g : ℕ) (s : Symbols) → length bytes ≡ 150 → g < 50 → Front (data_symbols short_page bytes) out 200 (g * 4)
-    → s ≡ symbols_of (get_or bytes (g * 3) 0) (get_or bytes (g * 3 + 1) 0) (get_or bytes (g * 3 + 2) 0)
-    → Front (data_symbols short_page bytes) (set (set (set (set out (g * 4) s.s0) (g * 4 + 1) s.s1) (g * 4 + 2) s.s2) (g * 4 + 3) s.s3) 200 ((g + 1) * 4)
+pub symbols_more : (bytes out : List ℕ) (g : ℕ) (s : List ℕ) → length bytes ≡ 150 → g < 50 → Front (data_symbols short_page bytes) out 200 (g * 4)
+    → s ≡ symbols_of (get_or bytes (g * 3) 0 ∷ get_or bytes (g * 3 + 1) 0 ∷ get_or bytes (g * 3 + 2) 0 ∷ [])
+    → Front (data_symbols short_page bytes) (set (set (set (set out (g * 4) (get_or s 0 0)) (g * 4 + 1) (get_or s 1 0)) (g * 4 + 2) (get_or s 2 0)) (g * 4 + 3) (get_or s 3 0)) 200 ((g + 1) * 4)
 symbols_more bytes out g s e h f es =
-    four_more (data_symbols short_page bytes) out 200 g s.s0 s.s1 s.s2 s.s3 f (omega (arith, h))
-    (ap (λ (t : Symbols). t.s0) es ∙ sym (symbols_at bytes g 0 e h (omega arith)))
-    (ap (λ (t : Symbols). t.s1) es ∙ sym (symbols_at bytes g 1 e h (omega arith)))
-    (ap (λ (t : Symbols). t.s2) es ∙ sym (symbols_at bytes g 2 e h (omega arith)))
-    (ap (λ (t : Symbols). t.s3) es ∙ sym (symbols_at bytes g 3 e h (omega arith)))
+    four_more (data_symbols short_page bytes) out 200 g (get_or s 0 0) (get_or s 1 0) (get_or s 2 0) (get_or s 3 0) f (omega (arith, h))
+    (symbol 0 (omega arith)) (symbol 1 (omega arith)) (symbol 2 (omega arith)) (symbol 3 (omega arith))
+  where
+    symbol : (k : ℕ) → k < 4 → get_or s k 0 ≡ get_or (data_symbols short_page bytes) (g * 4 + k) 0
+    symbol k l = ap (λ (t : List ℕ). get_or t k 0) es ∙ sym (symbols_at bytes g k e h l)
 
 -- the bytes of group g
 bytes_at : (symbols : List ℕ) (g k : ℕ) → length symbols ≡ 200 → g < 50 → k < 3
-    → let b = bytes_of (get_or symbols (g * 4) 0) (get_or symbols (g * 4 + 1) 0) (get_or symbols (g * 4 + 2) 0) (get_or symbols (g * 4 + 3) 0) in
-    get_or (data_bytes short_page symbols) (g * 3 + k) 0 ≡ get_or (b.b0 ∷ b.b1 ∷ b.b2 ∷ []) k 0
+    → get_or (data_bytes short_page symbols) (g * 3 + k) 0
+    ≡ get_or (bytes_of (get_or symbols (g * 4) 0 ∷ get_or symbols (g * 4 + 1) 0 ∷ get_or symbols (g * 4 + 2) 0 ∷ get_or symbols (g * 4 + 3) 0 ∷ [])) k 0
 bytes_at symbols g k e h l =
     repacked_at 64 4 256 3 50 symbols g k h l
     ∙ ap (λ (t : List ℕ). get_or (digits 256 3 (joined 64 0 t)) k 0) (four_from symbols (g * 4) (omega (arith, e, h)))
-    ∙ ap (λ (t : List ℕ). get_or t k 0) (group_of_symbols (get_or symbols (g * 4) 0) (get_or symbols (g * 4 + 1) 0) (get_or symbols (g * 4 + 2) 0) (get_or symbols (g * 4 + 3) 0))
+    ∙ ap (λ (t : List ℕ). get_or t k 0) (group_of_symbols _)
 
-pub bytes_more : (symbols out : List ℕ) (g : ℕ) (b : Bytes) → length symbols ≡ 200 → g < 50 → Front (data_bytes short_page symbols) out 150 (g * 3)
-    → b ≡ bytes_of (get_or symbols (g * 4) 0) (get_or symbols (g * 4 + 1) 0) (get_or symbols (g * 4 + 2) 0) (get_or symbols (g * 4 + 3) 0)
-    → Front (data_bytes short_page symbols) (set (set (set out (g * 3) b.b0) (g * 3 + 1) b.b1) (g * 3 + 2) b.b2) 150 ((g + 1) * 3)
+pub bytes_more : (symbols out : List ℕ) (g : ℕ) (b : List ℕ) → length symbols ≡ 200 → g < 50 → Front (data_bytes short_page symbols) out 150 (g * 3)
+    → b ≡ bytes_of (get_or symbols (g * 4) 0 ∷ get_or symbols (g * 4 + 1) 0 ∷ get_or symbols (g * 4 + 2) 0 ∷ get_or symbols (g * 4 + 3) 0 ∷ [])
+    → Front (data_bytes short_page symbols) (set (set (set out (g * 3) (get_or b 0 0)) (g * 3 + 1) (get_or b 1 0)) (g * 3 + 2) (get_or b 2 0)) 150 ((g + 1) * 3)
 bytes_more symbols out g b e h f eb =
-    three_more (data_bytes short_page symbols) out 150 g b.b0 b.b1 b.b2 f (omega (arith, h))
-    (ap (λ (t : Bytes). t.b0) eb ∙ sym (bytes_at symbols g 0 e h (omega arith)))
-    (ap (λ (t : Bytes). t.b1) eb ∙ sym (bytes_at symbols g 1 e h (omega arith)))
-    (ap (λ (t : Bytes). t.b2) eb ∙ sym (bytes_at symbols g 2 e h (omega arith)))
+    three_more (data_bytes short_page symbols) out 150 g (get_or b 0 0) (get_or b 1 0) (get_or b 2 0) f (omega (arith, h))
+    (byte 0 (omega arith)) (byte 1 (omega arith)) (byte 2 (omega arith))
+  where
+    byte : (k : ℕ) → k < 3 → get_or b k 0 ≡ get_or (data_bytes short_page symbols) (g * 3 + k) 0
+    byte k l = ap (λ (t : List ℕ). get_or t k 0) eb ∙ sym (bytes_at symbols g k e h l)
 
 -- ---- rows
 

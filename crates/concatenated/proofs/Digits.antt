@@ -149,10 +149,10 @@ packing_comes_back p a q b (suc n) xs hq e l h =
 
 -- ---- the short page's groups, as the code packs them
 
-pub group_of_bytes : (b0 b1 b2 : ℕ) → let s = symbols_of b0 b1 b2 in digits 64 4 (joined 256 0 (b0 ∷ b1 ∷ b2 ∷ [])) ≡ s.s0 ∷ s.s1 ∷ s.s2 ∷ s.s3 ∷ []
+pub group_of_bytes : (bytes : List ℕ) → digits 64 4 (joined 256 0 bytes) ≡ symbols_of bytes
 unfolding digits
-group_of_bytes b0 b1 b2 = refl
+group_of_bytes bytes = refl
 
-pub group_of_symbols : (s0 s1 s2 s3 : ℕ) → let b = bytes_of s0 s1 s2 s3 in digits 256 3 (joined 64 0 (s0 ∷ s1 ∷ s2 ∷ s3 ∷ [])) ≡ b.b0 ∷ b.b1 ∷ b.b2 ∷ []
+pub group_of_symbols : (symbols : List ℕ) → digits 256 3 (joined 64 0 symbols) ≡ bytes_of symbols
 unfolding digits
-group_of_symbols s0 s1 s2 s3 = refl
+group_of_symbols symbols = refl

@@ -10,7 +10,6 @@ use Rattle.column.specs.Level.{column_of}
 use Rattle.column.proofs.Levels.{highest_lt}
 use Rattle.column.proofs.Short.{sound}
 use Rattle.packing.specs.Packing.{column_bytes}
-use Rattle.packing.specs.declared.ColumnBytes.{ColumnBytes}
 use Rattle.concatenated.specs.Format.{short_page}
 use Rattle.concatenated.specs.Written.{column_symbols, page_in_bytes}
 use Rattle.concatenated.proofs.Encoding.{column_in_the_page}
@@ -43,19 +42,21 @@ column_in_range s0 s1 s2 s3 h0 h1 h2 h3 = highest_lt short sound (λ k. get_or (
 
 -- byte k of column j
 byte_at : (rows : List (List ℕ)) (j k : ℕ) → j < 63 → k < 4
-    → let b = column_bytes (column_of short (column_symbols rows j)) in get_or (page_in_bytes short_page rows) (j * 4 + k) 0 ≡ get_or (b.b0 ∷ b.b1 ∷ b.b2 ∷ b.b3 ∷ []) k 0
+    → get_or (page_in_bytes short_page rows) (j * 4 + k) 0 ≡ get_or (column_bytes (column_of short (column_symbols rows j))) k 0
 byte_at rows j k h l =
     sym (get_or-take 4 (drop (j * 4) (page_in_bytes short_page rows)) k 0 l ∙ get_or-drop (j * 4) (page_in_bytes short_page rows) k 0)
     ∙ ap (λ (t : List ℕ). get_or t k 0) (column_in_the_page short_page rows j h ∙ column_in_bytes_lem (column_of short (column_symbols rows j)))
 
-pub column_more : (rows : List (List ℕ)) (out : List ℕ) (j w : ℕ) (b : ColumnBytes) → length rows ≡ 4 → j < 63 → Front (page_in_bytes short_page rows) out 252 (j * 4)
+pub column_more : (rows : List (List ℕ)) (out : List ℕ) (j w : ℕ) (b : List ℕ) → length rows ≡ 4 → j < 63 → Front (page_in_bytes short_page rows) out 252 (j * 4)
     → w ≡ column_of short (get_or (get_or rows 0 []) j 0 ∷ get_or (get_or rows 1 []) j 0 ∷ get_or (get_or rows 2 []) j 0 ∷ get_or (get_or rows 3 []) j 0 ∷ [])
     → b ≡ column_bytes w
-    → Front (page_in_bytes short_page rows) (set (set (set (set out (j * 4) b.b0) (j * 4 + 1) b.b1) (j * 4 + 2) b.b2) (j * 4 + 3) b.b3) 252 ((j + 1) * 4)
+    → Front (page_in_bytes short_page rows) (set (set (set (set out (j * 4) (get_or b 0 0)) (j * 4 + 1) (get_or b 1 0)) (j * 4 + 2) (get_or b 2 0)) (j * 4 + 3) (get_or b 3 0)) 252 ((j + 1) * 4)
 column_more rows out j w b four h f ew eb =
-    let e : b ≡ column_bytes (column_of short (column_symbols rows j)) = eb ∙ ap column_bytes (ew ∙ ap (column_of short) (sym (symbols_of_column rows j four))) in
-    four_more (page_in_bytes short_page rows) out 252 j b.b0 b.b1 b.b2 b.b3 f (omega (arith, h))
-    (ap (λ (t : ColumnBytes). t.b0) e ∙ sym (byte_at rows j 0 h (omega arith)))
-    (ap (λ (t : ColumnBytes). t.b1) e ∙ sym (byte_at rows j 1 h (omega arith)))
-    (ap (λ (t : ColumnBytes). t.b2) e ∙ sym (byte_at rows j 2 h (omega arith)))
-    (ap (λ (t : ColumnBytes). t.b3) e ∙ sym (byte_at rows j 3 h (omega arith)))
+    four_more (page_in_bytes short_page rows) out 252 j (get_or b 0 0) (get_or b 1 0) (get_or b 2 0) (get_or b 3 0) f (omega (arith, h))
+    (byte 0 (omega arith)) (byte 1 (omega arith)) (byte 2 (omega arith)) (byte 3 (omega arith))
+  where
+    e : b ≡ column_bytes (column_of short (column_symbols rows j))
+    e = eb ∙ ap column_bytes (ew ∙ ap (column_of short) (sym (symbols_of_column rows j four)))
+
+    byte : (k : ℕ) → k < 4 → get_or b k 0 ≡ get_or (page_in_bytes short_page rows) (j * 4 + k) 0
+    byte k l = ap (λ (t : List ℕ). get_or t k 0) e ∙ sym (byte_at rows j k h l)

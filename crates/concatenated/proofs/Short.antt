@@ -1,5 +1,5 @@
 -- The short page: 63 columns, roots 30, 12, 6, 4, 150 bytes of data. Assumes nothing.
-use mathlib.Core.List.{List, [], ◌∷◌}
+use mathlib.Core.List.{List}
 use mathlib.Core.Logic.{◌⊎◌}
 use mathlib.Core.Path.{◌≡◌, refl, ap₂, ◌∙◌}
 use Prim.Native.Nat.{ℕ, zero, suc, ◌*◌}
@@ -50,7 +50,7 @@ unfolding data_before short_roots
 short_page_numbers = (refl, refl, refl, refl, refl, refl)
 
 -- 01: "four a column: 30 bits from the top, two zeros", as the code writes them
-pub column_in_bytes_lem : (x : ℕ) → let b = column_bytes x in column_in_bytes short_page x ≡ b.b0 ∷ b.b1 ∷ b.b2 ∷ b.b3 ∷ []
+pub column_in_bytes_lem : (x : ℕ) → column_in_bytes short_page x ≡ column_bytes x
 unfolding column_in_bytes digits
 column_in_bytes_lem x = refl
 

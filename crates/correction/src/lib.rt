@@ -7,7 +7,9 @@ ghost use Rattle.reedsolomon.specs.Words.{count, errors, wrong as wrong_in};
 ghost use Rattle.reedsolomon.specs.Row.{symbol, Symbols, marked};
 ghost use Rattle.reedsolomon.specs.Steps.{Padded, HasSyndromes, HasErrorLocations, IsCorrection};
 
-use locator::{erasure, locate, root};
+use locator::erasure;
+use locator::locate::{self, Located};
+use locator::root::{self, Listed};
 use syndromes::syndrome;
 
 // The marks of the error locations of a row with the syndromes s, of which n columns are erased.
@@ -17,10 +19,8 @@ fn error_locations(marks: &[u8], s: [u8; 33], t: usize, n: usize) -> [u8; 64]
 {
     let mut m = s;
     erasure::modify_syndromes(&mut m, marks, n);
-    let f = locate::locator_polynomial(&m, (t - n) / 2);
-    let d = f.degree;
-    let row = f.row;
-    let values = root::all_values(&row, d);
+    let Located { row, degree } = locate::locator_polynomial(&m, (t - n) / 2);
+    let values = root::all_values(&row, degree);
     root::locations(marks, &values)
 }
 
@@ -37,9 +37,7 @@ pub fn corrected(w: [u8; 64], marks: &[u8], s: [u8; 33], t: usize, n: usize) -> 
     ensures { IsCorrection 6 67 63 t marks.now w result.symbols × HasSyndromes 6 67 63 t result.symbols result.syndromes }
 {
     let flags = error_locations(marks, s, t, n);
-    let f = root::locators_of(&flags);
-    let k = f.k;
-    let xs = f.xs;
+    let Listed { xs, k } = root::locators_of(&flags);
     let g = magnitude::polynomial(&xs, k);
     let ys = magnitude::all_magnitudes(&g, &s, k, &xs);
     let symbols = magnitude::added(w, &flags, &ys);
@@ -51,10 +49,7 @@ pub fn corrected(w: [u8; 64], marks: &[u8], s: [u8; 33], t: usize, n: usize) -> 
 fn differs(mark: u8, a: u8, b: u8) -> u8
     ensures { result ≡ wrong_in (eqb mark 1) (ℕ_discrete a b) }
 {
-    if mark == 1 {
-        return 0;
-    }
-    if a == b { 0 } else { 1 }
+    u8::from(mark != 1 && a != b)
 }
 
 // In how many columns that are not erased two rows differ.

@@ -21,9 +21,8 @@ ghost use Rattle.page.specs.Outcomes.{data_buffer, symbol_buffer};
 ghost use Rattle.store_pages.specs.Pages.{encode_page_answer};
 ghost use Rattle.store_pages.specs.Committing.{commit_answer, held_bytes};
 
-use page::PageOutcome;
-use questions::{Answer, Outcome};
-use searches::SearchAnswer;
+use page::Report;
+use questions::refusal::Refusal;
 
 #[repr(C)]
 #[derive(Drop)]
@@ -33,20 +32,22 @@ pub struct Told {
     pub value: u64,
 }
 
-fn numbers_of(answer: Answer) -> Told
-    ensures { result ≡ told_of answer }
-{
-    match answer {
-        Answer::Value(v) => Told {
-            number: 0,
-            place: 0,
-            value: v,
-        },
-        Answer::Refused(n, p) => Told {
-            number: n,
-            place: p,
-            value: 0,
-        },
+impl From<Result<u64, Refusal>> for Told {
+    ghost from_gives = { λ answer told. told ≡ told_of answer };
+
+    fn from(answer: Result<u64, Refusal>) -> Told {
+        match answer {
+            Ok(value) => Told {
+                number: 0,
+                place: 0,
+                value,
+            },
+            Err(refusal) => Told {
+                number: refusal.question.number(),
+                place: refusal.place,
+                value: 0,
+            },
+        }
     }
 }
 
@@ -54,21 +55,21 @@ fn numbers_of(answer: Answer) -> Told
 pub extern "C" fn entry_encode_column(symbols: &[u8]) -> Told
     ensures { result ≡ told_of (encode_answer symbols.now) }
 {
-    numbers_of(store_columns::encode_column(symbols))
+    store_columns::encode_column(symbols).into()
 }
 
 #[unsafe(no_mangle)]
 pub extern "C" fn entry_level_word(level: u64, symbol: u64) -> Told
     ensures { result ≡ told_of (level_word_answer level symbol) }
 {
-    numbers_of(store_columns::level_word(level, symbol))
+    store_columns::level_word(level, symbol).into()
 }
 
 #[unsafe(no_mangle)]
 pub extern "C" fn entry_reimage(level: u64, column: u64) -> Told
     ensures { result ≡ told_of (reimage_answer level column) }
 {
-    numbers_of(store_columns::reimage(level, column))
+    store_columns::reimage(level, column).into()
 }
 
 #[repr(C)]
@@ -81,24 +82,26 @@ pub struct Found {
     pub low: i16,
 }
 
-pub fn numbers_of_search(answer: SearchAnswer) -> Found
-    ensures { result ≡ found_of answer }
-{
-    match answer {
-        SearchAnswer::Found(w, c, z) => Found {
-            number: 0,
-            place: 0,
-            word: w,
-            count: c,
-            low: z,
-        },
-        SearchAnswer::Refused(n, p) => Found {
-            number: n,
-            place: p,
-            word: 0,
-            count: 0,
-            low: 0,
-        },
+impl From<Result<search::Found, Refusal>> for Found {
+    ghost from_gives = { λ answer told. told ≡ found_of answer };
+
+    fn from(answer: Result<search::Found, Refusal>) -> Found {
+        match answer {
+            Ok(found) => Found {
+                number: 0,
+                place: 0,
+                word: found.word,
+                count: found.count,
+                low: found.low,
+            },
+            Err(refusal) => Found {
+                number: refusal.question.number(),
+                place: refusal.place,
+                word: 0,
+                count: 0,
+                low: 0,
+            },
+        }
     }
 }
 
@@ -106,14 +109,14 @@ pub fn numbers_of_search(answer: SearchAnswer) -> Found
 pub extern "C" fn entry_search_whole(level: u64, soft: &[u8], limit: u64) -> Found
     ensures { result ≡ found_of (search_answer off whole level soft.now limit) }
 {
-    numbers_of_search(store_searches::search_whole(level, soft, limit))
+    store_searches::search_whole(level, soft, limit).into()
 }
 
 #[unsafe(no_mangle)]
 pub extern "C" fn entry_search_supercode(level: u64, soft: &[u8], limit: u64) -> Found
     ensures { result ≡ found_of (search_answer off supercode level soft.now limit) }
 {
-    numbers_of_search(store_searches::search_supercode(level, soft, limit))
+    store_searches::search_supercode(level, soft, limit).into()
 }
 
 #[unsafe(no_mangle)]
@@ -125,7 +128,7 @@ pub extern "C" fn entry_search_whole_list(
 ) -> Found
     ensures { result ≡ found_of (search_answer (on threshold) whole level soft.now limit) }
 {
-    numbers_of_search(store_searches::search_whole_list(level, soft, limit, threshold))
+    store_searches::search_whole_list(level, soft, limit, threshold).into()
 }
 
 #[unsafe(no_mangle)]
@@ -137,7 +140,7 @@ pub extern "C" fn entry_search_supercode_list(
 ) -> Found
     ensures { result ≡ found_of (search_answer (on threshold) supercode level soft.now limit) }
 {
-    numbers_of_search(store_searches::search_supercode_list(level, soft, limit, threshold))
+    store_searches::search_supercode_list(level, soft, limit, threshold).into()
 }
 
 #[repr(C)]
@@ -147,18 +150,20 @@ pub struct Reply {
     pub place: u64,
 }
 
-fn numbers_of_outcome(outcome: Outcome) -> Reply
-    ensures { result ≡ reply_of outcome }
-{
-    match outcome {
-        Outcome::Done => Reply {
-            number: 0,
-            place: 0,
-        },
-        Outcome::Refused(n, p) => Reply {
-            number: n,
-            place: p,
-        },
+impl From<Result<(), Refusal>> for Reply {
+    ghost from_gives = { λ outcome told. told ≡ reply_of outcome };
+
+    fn from(outcome: Result<(), Refusal>) -> Reply {
+        match outcome {
+            Ok(()) => Reply {
+                number: 0,
+                place: 0,
+            },
+            Err(Refusal { question, place }) => Reply {
+                number: question.number(),
+                place,
+            },
+        }
     }
 }
 
@@ -166,7 +171,7 @@ fn numbers_of_outcome(outcome: Outcome) -> Reply
 pub extern "C" fn entry_encode_row(level: u64, data: &[u8], out: &mut [u8]) -> Reply
     ensures { Replied (encode_row_answer level «data».now out.old) (encoded_row 6 67 63 (short_roots level) «data».now) out.old result out.new }
 {
-    numbers_of_outcome(store_rows::encode_row(level, data, out))
+    store_rows::encode_row(level, data, out).into()
 }
 
 #[unsafe(no_mangle)]
@@ -179,28 +184,28 @@ pub extern "C" fn entry_decode_row(
     ensures { Replied (decode_row_answer level symbols.now marks.now out.old)
         (word_of out.old (outer_answer 6 67 63 (short_roots level) symbols.now marks.now)) out.old result out.new }
 {
-    numbers_of_outcome(store_rows::decode_row(level, symbols, marks, out))
+    store_rows::decode_row(level, symbols, marks, out).into()
 }
 
 #[unsafe(no_mangle)]
 pub extern "C" fn entry_write_dump(soft: &[u8], out: &mut [u8]) -> Reply
     ensures { Replied (write_answer soft.now out.old) (dump_of soft.now) out.old result out.new }
 {
-    numbers_of_outcome(store_dumps::write_dump(soft, out))
+    store_dumps::write_dump(soft, out).into()
 }
 
 #[unsafe(no_mangle)]
 pub extern "C" fn entry_read_dump(dump: &[u8], out: &mut [u8]) -> Reply
     ensures { Replied (read_answer dump.now out.old) (soft_of dump.now) out.old result out.new }
 {
-    numbers_of_outcome(store_dumps::read_dump(dump, out))
+    store_dumps::read_dump(dump, out).into()
 }
 
 #[unsafe(no_mangle)]
 pub extern "C" fn entry_encode_page(data: &[u8], out: &mut [u8]) -> Reply
     ensures { Replied (encode_page_answer «data».now out.old) (written_page short_page short_encoder «data».now) out.old result out.new }
 {
-    numbers_of_outcome(store_pages::encode_page(data, out))
+    store_pages::encode_page(data, out).into()
 }
 
 #[repr(C)]
@@ -216,23 +221,30 @@ pub struct PageReply {
     pub low: i16,
 }
 
-pub fn numbers_of_page(outcome: PageOutcome) -> PageReply
-    ensures { result ≡ page_reply_of outcome }
-{
-    let report = outcome.report;
-    let changed = report.changed;
-    let erased = report.erased;
-    let changed_marks = report.changed_marks;
-    let erased_marks = report.erased_marks;
-    PageReply {
-        number: outcome.number,
-        place: outcome.place,
-        steps: report.steps,
-        changed: changed,
-        erased: erased,
-        changed_marks: changed_marks,
-        erased_marks: erased_marks,
-        low: report.low,
+impl From<Result<Report, Refusal>> for PageReply {
+    ghost from_gives = { λ outcome told. told ≡ page_reply_of outcome };
+
+    fn from(outcome: Result<Report, Refusal>) -> PageReply {
+        let (number, place) = match &outcome {
+            Ok(_) => (0, 0),
+            Err(refusal) => (refusal.question.number(), refusal.place),
+        };
+        let report = Report::of(outcome);
+        // The arrays by locals: the check covers no array field of another value straight in a literal.
+        let changed = report.changed;
+        let erased = report.erased;
+        let changed_marks = report.changed_marks;
+        let erased_marks = report.erased_marks;
+        PageReply {
+            number,
+            place,
+            steps: report.steps,
+            changed,
+            erased,
+            changed_marks,
+            erased_marks,
+            low: report.low,
+        }
     }
 }
 
@@ -240,28 +252,28 @@ pub fn numbers_of_page(outcome: PageOutcome) -> PageReply
 pub extern "C" fn entry_decode_page(soft: &[u8], limit: u64, data: &mut [u8]) -> PageReply
     ensures { PageReplied data_buffer off supercode soft.now limit «data».old result «data».new }
 {
-    numbers_of_page(store_pages::decode_page(soft, limit, data))
+    store_pages::decode_page(soft, limit, data).into()
 }
 
 #[unsafe(no_mangle)]
 pub extern "C" fn entry_decode_page_whole(soft: &[u8], limit: u64, data: &mut [u8]) -> PageReply
     ensures { PageReplied data_buffer off whole soft.now limit «data».old result «data».new }
 {
-    numbers_of_page(store_pages::decode_page_whole(soft, limit, data))
+    store_pages::decode_page_whole(soft, limit, data).into()
 }
 
 #[unsafe(no_mangle)]
 pub extern "C" fn entry_ask_page(soft: &[u8], limit: u64, symbols: &mut [u8]) -> PageReply
     ensures { PageReplied symbol_buffer off supercode soft.now limit symbols.old result symbols.new }
 {
-    numbers_of_page(store_pages::ask_page(soft, limit, symbols))
+    store_pages::ask_page(soft, limit, symbols).into()
 }
 
 #[unsafe(no_mangle)]
 pub extern "C" fn entry_ask_page_whole(soft: &[u8], limit: u64, symbols: &mut [u8]) -> PageReply
     ensures { PageReplied symbol_buffer off whole soft.now limit symbols.old result symbols.new }
 {
-    numbers_of_page(store_pages::ask_page_whole(soft, limit, symbols))
+    store_pages::ask_page_whole(soft, limit, symbols).into()
 }
 
 #[unsafe(no_mangle)]
@@ -273,7 +285,7 @@ pub extern "C" fn entry_decode_page_list(
 ) -> PageReply
     ensures { PageReplied data_buffer (on threshold) supercode soft.now limit «data».old result «data».new }
 {
-    numbers_of_page(store_pages::decode_page_list(soft, limit, threshold, data))
+    store_pages::decode_page_list(soft, limit, threshold, data).into()
 }
 
 #[unsafe(no_mangle)]
@@ -285,7 +297,7 @@ pub extern "C" fn entry_decode_page_whole_list(
 ) -> PageReply
     ensures { PageReplied data_buffer (on threshold) whole soft.now limit «data».old result «data».new }
 {
-    numbers_of_page(store_pages::decode_page_whole_list(soft, limit, threshold, data))
+    store_pages::decode_page_whole_list(soft, limit, threshold, data).into()
 }
 
 #[unsafe(no_mangle)]
@@ -297,7 +309,7 @@ pub extern "C" fn entry_ask_page_list(
 ) -> PageReply
     ensures { PageReplied symbol_buffer (on threshold) supercode soft.now limit symbols.old result symbols.new }
 {
-    numbers_of_page(store_pages::ask_page_list(soft, limit, threshold, symbols))
+    store_pages::ask_page_list(soft, limit, threshold, symbols).into()
 }
 
 #[unsafe(no_mangle)]
@@ -309,14 +321,14 @@ pub extern "C" fn entry_ask_page_whole_list(
 ) -> PageReply
     ensures { PageReplied symbol_buffer (on threshold) whole soft.now limit symbols.old result symbols.new }
 {
-    numbers_of_page(store_pages::ask_page_whole_list(soft, limit, threshold, symbols))
+    store_pages::ask_page_whole_list(soft, limit, threshold, symbols).into()
 }
 
 #[unsafe(no_mangle)]
 pub extern "C" fn entry_commit_page(symbols: &[u8], data: &mut [u8]) -> Reply
     ensures { Replied (commit_answer symbols.now «data».old) (held_bytes symbols.now) «data».old result «data».new }
 {
-    numbers_of_outcome(store_pages::commit_page(symbols, data))
+    store_pages::commit_page(symbols, data).into()
 }
 
 // The part of the page that the look-up hands back: its contents, and where in the page it lies.

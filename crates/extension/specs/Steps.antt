@@ -1,13 +1,14 @@
 -- For the code's contracts: what a search is given, what its keys are like, and what a step does to the list that the heap holds. Assumes nothing.
-use Rattle.std.specs.Prelude.{Bool, List, [], ◌∷◌, ◌⊎◌, ◌≡◌, ℕ, suc, ◌+◌, ◌-◌, ◌*◌, ◌/◌, ◌%◌, ◌^◌, ◌≤◌, ◌<◌, eqb, ℤ, pos, nat_abs, ◌+ℤ◌, length, get_or}
+use Rattle.std.specs.Prelude.{Bool, List, [], ◌∷◌, Option, None, Some, ◌⊎◌, ◌≡◌, ℕ, suc, ◌+◌, ◌*◌, ◌/◌, ◌%◌, ◌^◌, ◌≤◌, ◌<◌, eqb, ℤ, pos, nat_abs, ◌+ℤ◌, length, get_or}
 use Rattle.column.specs.Tabulated.{tabulated}
 use Rattle.paths.specs.Stack.{Nodes, grow}
-use Rattle.heap.specs.Heap.{weigh, Every, Heap}
+use Rattle.heap.specs.Heap.{Every, Heap}
 use Rattle.heap.specs.Holds.{Holds}
 use Rattle.trellis.specs.Values.{Values, branch}
 use Rattle.trellis.specs.Order.{bit}
 use Rattle.trellis.specs.Keys.{Key, key, key_before, key_passes}
-use Rattle.stack.specs.Places.{Upto, Out}
+use Rattle.stack.specs.declared.Path.{Path}
+use Rattle.stack.specs.Places.{path_key, Upto}
 
 -- a mask that is 0, or has its lowest bit
 abbrev pub ZeroOrOdd : ℕ → Type 0
@@ -17,7 +18,7 @@ ZeroOrOdd m = (m ≡ 0) ⊎ (m % 2 ≡ 1)
 pub record TableOf (vs : Values) (table : List ℤ) : Type 0 where
   pub entry : (b : Bool) (q : ℕ) → q < 8 → get_or table (bit b * 8 + q) (pos 0) ≡ branch vs (bit b) q
 
--- the table of values; `table_of` says that it is one
+-- the table of values; `table_of_lem` says that it is one
 abbrev pub table_of : Values → List ℤ
 table_of vs = tabulated (λ k. branch vs (k / 8) (k % 8)) 0 16
 
@@ -59,16 +60,20 @@ table_nodes n table soft left right = record {
   full = λ k. eqb k.len n;
 }
 
--- Of n that were there, y, the first, is out, and m are left; if none was there, y has no bits.
-pub record Next (f₀ f : ℕ → Key) (n m : ℕ) (y : Key) : Type 0 where
-  pub next : ((n ≡ 0) × (m ≡ 0) × (y ≡ key (pos 0) 0 0)) ⊎ ((0 < n) × (m ≡ n - 1) × Out f (n - 1) y (λ h. weigh h f₀ n))
+-- the path taken is one of the stack's; if there was none, none are left
+abbrev pub Taken : ℕ → ℕ → Option Path → Type 0
+Taken size m None = m ≡ 0
+Taken size m (Some y) = Held size (path_key y)
 
--- The extensions of p, if it is not full, are in, and y, the first, is out; m are left of n. If none was there, y has no bits.
-pub record Advanced (N : Nodes Key) (size : ℕ) (f₀ f : ℕ → Key) (n m : ℕ) (p y : Key) : Type 0 where
+-- the path taken is the head of a list, and the heap of the first m holds the rest; if there was none, the list is empty
+abbrev pub Leads : List Key → (ℕ → Key) → ℕ → Option Path → Type 0
+Leads xs f m None = xs ≡ []
+Leads xs f m (Some y) = (rest : List Key) × (xs ≡ path_key y ∷ rest) × Holds Upto f m rest
+
+-- The extensions of p, if it is not full, are in, and the first, if there is one, is out; m are left of n.
+pub record Advanced (N : Nodes Key) (size : ℕ) (f₀ f : ℕ → Key) (n m : ℕ) (p : Key) (y : Option Path) : Type 0 where
   pub few : m ≤ n + 1
   pub heap : Heap Upto f m
   pub held : Every (Held size) f m
-  pub good : Good size y
-  pub none : y.len ≡ 0 → m ≡ 0
-  pub lists : (xs : List Key) → Holds Upto f₀ n xs
-      → ((y.len ≡ 0) × (grow N p xs ≡ [])) ⊎ ((0 < y.len) × (rest : List Key) × (grow N p xs ≡ y ∷ rest) × Holds Upto f m rest)
+  pub taken : Taken size m y
+  pub lists : (xs : List Key) → Holds Upto f₀ n xs → Leads (grow N p xs) f m y

@@ -2,67 +2,40 @@
 // The whole output is built in a buffer by functions with contracts, then written line by line.
 #![tactic(auto)]
 
-ghost use Rattle.std.specs.Prelude.{◌≡◌, ◌+◌, ◌≤◌, ◌<◌, length, take, OnOk, OnErr};
+ghost use Rattle.std.specs.Prelude.{◌≡◌, ◌++◌, ◌+◌, ◌≤◌, ◌<◌, length, OnOk, OnErr};
 ghost use Rattle.std.specs.Io.KnownBytes.{Appends};
-ghost use Rattle.io.specs.Counts.{IsPrefixLen};
-ghost use Rattle.stack.specs.Places.{Room};
 ghost use Rattle.search.specs.Outcomes.{SupercodesBelow};
-ghost use Rattle.listing.specs.Text.{Appended, AppendsBeginning};
+ghost use Rattle.listing.specs.Text.{AppendsBeginning};
 ghost use Rattle.flipcensus.specs.Text.{level_text, census_text};
 
+use listing::Text;
+use stack::Stack;
 use std::io::Write;
 
-// The lines of a level, by the arrays and masks that are lent; the arrays may hold anything.
-fn append_level(
-    sums: &mut [i16; 2002],
-    lens: &mut [u8; 2002],
-    bits: &mut [u64; 2002],
-    masks: &[[u64; 30]; 8],
-    level: usize,
-    out: &mut [u8],
-    at: usize,
-) -> usize
-    requires { Room sums.old lens.old bits.old × SupercodesBelow 4 masks.now × (level < 4) × (at + 532 ≤ length out.old) }
-    ensures room { Room sums.new lens.new bits.new }
-    ensures appended { Appended at (level_text level 4) 532 out.old result out.new }
+// The lines of a level, by the stack and masks that are lent; the stack may hold anything.
+#[tactic(auto, unfolding(crate::specs::Text::level_text, crate::specs::Text::line_of))]
+fn append_level(stack: &mut Stack, masks: &[[u64; 30]; 8], level: usize, text: &mut Text<2128>)
+    requires { SupercodesBelow 4 masks.now × (level < 4) × (length text.old + 532 ≤ 2128) }
+    ensures { text.new ≡ text.old ++ level_text level 4 }
 {
-    let mut end = at;
-    let mut ones: usize = 0;
-    while ones < 4 {
-        let t = census::count_patterns(&mut *sums, &mut *lens, &mut *bits, masks, level, ones);
-        end = listing::append_census(
-            level as u64,
-            ones as u64,
-            t.zero,
-            t.other,
-            t.spent,
-            &mut *out,
-            end,
-        );
-        ones += 1;
+    for ones in 0..4 {
+        let t = census::count_patterns(stack, masks, level, ones);
+        text.append_census(level as u64, ones as u64, t.zero, t.other, t.spent);
     }
-    end
 }
 
-// The whole output, by one set of arrays and masks.
-fn census_text(out: &mut [u8]) -> usize
-    requires { 2128 ≤ length out.old }
-    ensures prefix_len { IsPrefixLen result out.new }
-    ensures out_after { take result out.new ≡ census_text }
+// The whole output, by one stack and set of masks.
+#[tactic(auto, using(crate::proofs::Lengths::text_below_length), unfolding(crate::specs::Text::text_below))]
+fn census_text() -> Text<2128>
+    ensures { result ≡ census_text }
 {
-    let mut sums = [0i16; 2002];
-    let mut lens = [0u8; 2002];
-    let mut bits = [0u64; 2002];
+    let mut stack = Stack::new();
     let masks = search::short_page::supercode_masks();
-    let mut end: usize = 0;
-    let mut level: usize = 0;
-    while level < 4 {
-        end = append_level(
-            &mut sums, &mut lens, &mut bits, &masks, level, &mut *out, end,
-        );
-        level += 1;
+    let mut text = Text::new();
+    for level in 0..4 {
+        append_level(&mut stack, &masks, level, &mut text);
     }
-    end
+    text
 }
 
 // Writes the output, each line by a write of its own. The library's write promises nothing of the bytes that standard output takes, so what they are is asked here.
@@ -75,7 +48,6 @@ fn write_output<W: Write>(text: &[u8], out: &mut W) -> std::io::Result<()>
 }
 
 fn main(rt: HostRuntime) -> std::io::Result<()> {
-    let mut text = [0u8; 2128];
-    let m = census_text(&mut text);
-    write_output(&text[..m], &mut rt.stdout())
+    let text = census_text();
+    write_output(text.as_bytes(), &mut rt.stdout())
 }

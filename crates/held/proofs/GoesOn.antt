@@ -1,7 +1,7 @@
 -- A held search that goes on: from where the definition's search stops, its outcome is that of the definition's search with the larger limit, and if it is spent, it stops there again. Assumes nothing.
 use Prim.Native.Nat.{ℕ, zero, suc, ◌+◌, ◌-◌, ◌<◌, ◌≤◌}
 use native.Mathlib.Omega.{arith}
-use mathlib.Core.Bool.{Bool, true, false, cond}
+use mathlib.Core.Bool.{Bool, true, false, cond, true≢false}
 use mathlib.Core.List.{List, [], ◌∷◌, map}
 use mathlib.Core.Logic.{◌⊎◌, inl, inr}
 use mathlib.Core.Path.{◌≡◌, refl, sym, ap, ap₂, ◌∙◌, subst, subst⁻¹}
@@ -9,9 +9,6 @@ use lib.Dec.{eqb}
 use lib.IntN.{ℤ, pos}
 use lib.ListN.{length, get_or}
 use borrow.Author.Tests.{eq-eqb, eqb-true, eqb-false}
-use mir.Syntax.{w16}
-use mir.Val.{SFits, to_z, of_z}
-use mir.Facts.{to_z-of_z}
 use Rattle.column.specs.Shape.{short}
 use Rattle.paths.specs.Tree.{Tree, Sound}
 use Rattle.paths.specs.Stack.{Nodes, extend, grow}
@@ -31,7 +28,8 @@ use Rattle.trellis.proofs.Short.{searchable, one_codeword_is_ahead_of_all}
 use Rattle.search.specs.Progress.{Standing, Going, Answered, Ended, Reached}
 use Rattle.search.specs.Outcomes.{SupercodesAt, TablesFor, outcome_of, code_outcome}
 use Rattle.search.specs.declared.Progress.{Progress}
-use Rattle.search.specs.declared.SearchOutcome.TheVariants.{Found, Spent}
+use Rattle.std.specs.Prelude.{Option, None, Some, is_some}
+use Rattle.search.specs.declared.Found.{Found}
 use Rattle.search.proofs.Continues.{standing_start, holds_none, start_grows}
 use Rattle.search.proofs.ShortSearch.{search_short, level_not_above}
 use Rattle.held.specs.Entry.{begun_held, column_trellis, held_trellis, last_of, paths_of}
@@ -41,10 +39,6 @@ use Rattle.held.specs.declared.Held.{Held}
 spent_by_bits : (o : SearchResult (WithLow Key)) (c : ℕ) → by_bits o ≡ spent c → o ≡ spent c
 spent_by_bits (answer k d) c e = let z : ◌≡◌ {A = ℕ} 0 1 = cc e in absurd (omega arith)
 spent_by_bits (spent d) c e = ap spent (cc e)
-
--- a number read back from its 16 bits
-abbrev handed : ℤ → ℤ
-handed z = to_z w16 (of_z w16 z)
 
 abbrev always : Key → Bool
 always k = true
@@ -173,11 +167,11 @@ module _ (h : Held) (s : Stopped h) (limit : ℕ) (more : h.limit < limit) (left
               let ends : outcome ≡ spent c = in_parts (limit - c) e.later (omega (arith, e.within)) ∙ e.same always (limit - c) in
               absurd (omega (arith, e.within, spent_takes_the_limit h.column h.level s.ready.level left right masks limit c (sym (search_is h.column h.level s.ready.level left right masks limit) ∙ ap by_bits ends)))
 
-      pub found_by_going_on : cond (eqb p.len 30) (Found p.bits c z) Spent ≡ code_outcome (searched (held_trellis h) limit)
+      pub found_by_going_on : cond (eqb p.len 30) (Some (record { word = p.bits; count = c; low = z })) None ≡ code_outcome (searched (held_trellis h) limit)
       unfolding outcome_of
       found_by_going_on = search_short supercode h.level s.ready.level h.column left right table tables limit _ (go (eqb p.len 30) refl)
         where
-          go : (b : Bool) → eqb p.len 30 ≡ b → cond b (Found p.bits c z) Spent ≡ outcome_of outcome
+          go : (b : Bool) → eqb p.len 30 ≡ b → cond b (Some (record { word = p.bits; count = c; low = z })) None ≡ outcome_of outcome
           go true e = sym (ap outcome_of (word_is (eqb-true p.len 30 e)))
           go false e = sym (ap outcome_of (spent_is (eqb-false p.len 30 e)).2)
 
@@ -203,25 +197,15 @@ module _ (h : Held) (s : Stopped h) (limit : ℕ) (more : h.limit < limit) (left
                 (low_is h.column h.level s.ready.level left right masks limit);
           }
 
--- ---- sums as the code hands them on, read back from their bits
-
-pub reached_handed : (N : Nodes Key) (limit : ℕ) (f : ℕ → Key) (k : ℕ) (s : ℤ) (l b : ℕ) (low : ℤ) (xs : List Key) (m c : ℕ) (s' : ℤ) (l' b' : ℕ) (low' : ℤ) → SFits w16 s → SFits w16 low → SFits w16 s' → SFits w16 low'
-    → Reached N 30 limit f k (key (handed s) l b) (handed low) xs m c (key s' l' b') low' → Reached N 30 limit f k (key s l b) low xs m c (key (handed s') l' b') (handed low')
-reached_handed N limit f k s l b low xs m c s' l' b' low' fs fl fs' fl' r =
-    subst (λ (y : ℤ). Reached N 30 limit f k (key y l b) low xs m c (key (handed s') l' b') (handed low')) (to_z-of_z fs)
-    (subst (λ (y : ℤ). Reached N 30 limit f k (key (handed s) l b) y xs m c (key (handed s') l' b') (handed low')) (to_z-of_z fl)
-    (subst⁻¹ (λ (y : ℤ). Reached N 30 limit f k (key (handed s) l b) (handed low) xs m c (key y l' b') (handed low')) (to_z-of_z fs')
-    (subst⁻¹ (λ (y : ℤ). Reached N 30 limit f k (key (handed s) l b) (handed low) xs m c (key s' l' b') y) (to_z-of_z fl') r)))
-
-pub outcome_handed : (p : Progress) → SFits w16 p.low → outcome_at p ≡ cond (eqb p.len 30) (Found p.bits p.count (handed p.low)) Spent
-outcome_handed p fits = ap (λ (z : ℤ). cond (eqb p.len 30) (Found p.bits p.count z) Spent) (sym (to_z-of_z fits))
-
 -- a state with a word is not spent
-pub spent_has_no_word : (p : Progress) → outcome_at p ≡ Spent → p.len ≡ 30 → ⊥
-spent_has_no_word p e full = go (sym (ap (λ (b : Bool). cond b (Found p.bits p.count p.low) Spent) (eq-eqb p.len 30 full)) ∙ e)
+pub spent_has_no_word : (p : Progress) → outcome_at p ≡ None → p.last.len ≡ 30 → ⊥
+spent_has_no_word p e full = go (sym (ap (λ (b : Bool). cond b (Some (found_at p)) None) (eq-eqb p.last.len 30 full)) ∙ e)
   where
-    go : Found p.bits p.count p.low ≡ Spent → ⊥
-    go q = let z : ◌≡◌ {A = ℕ} 0 1 = cc q in absurd (omega arith)
+    found_at : Progress → Found
+    found_at p = record { word = p.last.bits; count = p.count; low = p.low }
+
+    go : ◌≡◌ {A = Option Found} (Some (found_at p)) None → ⊥
+    go q = true≢false (ap is_some q)
 
 -- ---- a search of which no step is made
 

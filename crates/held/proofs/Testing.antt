@@ -1,11 +1,10 @@
--- What the tests of a held search find out, both ways; and a search that is begun. Assumes nothing.
-use Prim.Native.Nat.{ℕ, zero, suc, ◌+◌, ◌-◌, ◌*◌, ◌/◌, ◌^◌, ◌≤◌, ◌<◌}
+-- What the tests of a held search find out, both ways. Assumes nothing.
+use Prim.Native.Nat.{ℕ, zero, suc, ◌+◌, ◌*◌, ◌/◌, ◌^◌, ◌≤◌, ◌<◌}
 use native.Mathlib.Nat.{eq-or-lt_of_le}
 use native.Mathlib.Omega.{arith}
 use mathlib.Core.Bool.{Bool, true, false, not, true≢false}
-use mathlib.Core.List.{List}
 use mathlib.Core.Logic.{◌⊎◌, inl, inr, ◌↔◌}
-use mathlib.Core.Path.{◌≡◌, refl, sym, ap, ap₂, ◌∙◌, subst, subst⁻¹}
+use mathlib.Core.Path.{◌≡◌, refl, sym, ap, ap₂, ◌∙◌, subst⁻¹}
 use lib.IntN.{ℤ, pos, negsuc, neg_ℤ, nat_abs, +ℤ_idl, ◌-ℤ◌, ◌*ℤ◌}
 use lib.ListN.{length}
 use lib.Signed.{lt_z, le_z}
@@ -17,10 +16,10 @@ use Rattle.poly.proofs.Remainder.{small_of_div}
 use Rattle.questions.specs.Questions.{first_above}
 use Rattle.questions.proofs.FirstAbove.{below_first}
 use Rattle.questions.proofs.AllInRange.{no_value_above}
-use Rattle.trellis.specs.Keys.{Key, key, key_before, none_taken}
+use Rattle.trellis.specs.Keys.{key}
 use Rattle.stack.proofs.Sums.{near_fits, lt_flag}
-use Rattle.extension.specs.Steps.{Good, Held as HeldPath}
-use Rattle.held.specs.Entry.{nothing_held, begun_held, last_of, paths_of}
+use Rattle.extension.specs.Steps.{Good}
+use Rattle.held.specs.Entry.{last_of, paths_of}
 use Rattle.held.specs.State.{Placed, Ready}
 use Rattle.held.specs.declared.Held.{Held}
 
@@ -101,23 +100,7 @@ module _ (l : ℕ) (short : l ≤ 30) where
           λ g. same ∙ near.1 (omega (arith, g.near)),
         )
 
--- ---- sums as a call hands them on, read back from their bits; and bits that were widened
-
-pub good_handed : (z : ℤ) (l b d : ℕ) (t : Bool) → SFits w16 z → d ≡ b → (t ≡ true) ↔ Good 30 (key (to_z w16 (of_z w16 z)) l d) → (t ≡ true) ↔ Good 30 (key z l b)
-good_handed z l b d t h same so = subst (λ (y : ℤ). (t ≡ true) ↔ Good 30 (key y l b)) (to_z-of_z h) (subst (λ (x : ℕ). (t ≡ true) ↔ Good 30 (key (to_z w16 (of_z w16 z)) l x)) same so)
-
-pub before_handed : (z y : ℤ) (l b d m e f : ℕ) (t : Bool) → SFits w16 z → SFits w16 y → d ≡ b → f ≡ e → t ≡ key_before (key (to_z w16 (of_z w16 z)) l d) (key (to_z w16 (of_z w16 y)) m f) → t ≡ key_before (key z l b) (key y m e)
-before_handed z y l b d m e f t hz hy same same' so = so ∙ ap₂ (λ (x w : ℤ). key_before (key x l d) (key w m f)) (to_z-of_z hz) (to_z-of_z hy) ∙ ap₂ (λ (i j : ℕ). key_before (key z l i) (key y m j)) same same'
-
--- ---- a path at its place
-
--- at the root
-pub placed_first : (f : ℕ → Key) (j : ℕ) → HeldPath 30 (f j) → j ≡ 0 → Placed f j
-placed_first f j held e = record { held = held; order = λ h. absurd (omega arith) }
-
--- below it, by a test of the order
-pub placed_exactly : (f : ℕ → Key) (j : ℕ) (t : Bool) → HeldPath 30 (f j) → t ≡ key_before (f j) (f ((j - 1) / 4)) → (j ≡ 0 → ⊥) → (not t ≡ true) ↔ Placed f j
-placed_exactly f j t held e some = (λ n. record { held = held; order = λ h. sym e ∙ not-true t n }, λ p. ap not (e ∙ p.order (omega arith)))
+-- ---- places one after the other
 
 -- one place more
 pub one_more : (P : ℕ → Type 0) (j : ℕ) → ((k : ℕ) → k < j → P k) → P j → (k : ℕ) → k < j + 1 → P k
@@ -146,26 +129,3 @@ module _ (h : Held) (full : length h.column ≡ 30) where
     },
     λ r. all.1 (λ j l. record { held = r.standing.held j l; order = λ k. r.standing.heap.order j k l }),
   )
-
--- ---- a search that is begun
-
--- an entry with another level, lowest sum and column
-abbrev started : Held → ℕ → List ℕ → Held
-started h level column = record {
-  limit = h.limit;
-  level = level;
-  paths = h.paths;
-  last = h.last;
-  sum = h.sum;
-  low = none_taken;
-  len = h.len;
-  column = column;
-  lens = h.lens;
-  sums = h.sums;
-  bits = h.bits;
-}
-
--- of nothing, it is a search that is begun
-pub begun : (h : Held) (soft column : List ℕ) (level : ℕ) → h ≡ nothing_held → column ≡ soft → started h level column ≡ begun_held soft level
-unfolding nothing_held begun_held
-begun h soft column level none same = ap₂ (λ (h : Held) (column : List ℕ). started h level column) none same

@@ -1,5 +1,5 @@
 -- 02, point 13: what the arrays of a held search hold. Assumes nothing.
-use Rattle.std.specs.Prelude.{cond, List, [], ◌∷◌, ◌++◌, map, ◌≡◌, ℕ, zero, suc, ◌-◌, ◌/◌, ◌<◌, ◌≤◌, eqb, pos, length, get_or}
+use Rattle.std.specs.Prelude.{cond, Option, None, Some, List, [], ◌∷◌, ◌++◌, map, ◌≡◌, ℕ, zero, suc, ◌-◌, ◌/◌, ◌<◌, ◌≤◌, eqb, pos, length, get_or}
 use Rattle.paths.specs.Low.{Lowest}
 use Rattle.paths.specs.Search.{after, spent}
 use Rattle.heap.specs.Holds.{Holds}
@@ -11,8 +11,7 @@ use Rattle.extension.specs.Steps.{Held as HeldPath}
 use Rattle.search.specs.Progress.{Standing}
 use Rattle.search.specs.Outcomes.{code_outcome}
 use Rattle.search.specs.declared.Progress.{Progress}
-use Rattle.search.specs.declared.SearchOutcome.{SearchOutcome}
-use Rattle.search.specs.declared.SearchOutcome.TheVariants.{Found, Spent}
+use Rattle.search.specs.declared.Found.{Found}
 use Rattle.held.specs.Entry.{held_trellis, last_of, paths_of}
 use Rattle.held.specs.declared.Held.{Held}
 use Rattle.held.specs.declared.Gone.{Gone}
@@ -52,8 +51,8 @@ pub record Narrowed (wide narrow : List ℕ) : Type 0 where
   pub same : (k : ℕ) → get_or wide k 0 < 4294967296 → get_or narrow k 0 ≡ get_or wide k 0
 
 -- what a search that stopped in a state has found
-abbrev pub outcome_at : Progress → SearchOutcome
-outcome_at s = cond (eqb s.len 30) (Found s.bits s.count s.low) Spent
+abbrev pub outcome_at : Progress → Option Found
+outcome_at s = cond (eqb s.last.len 30) (Some (record { word = s.last.bits; count = s.count; low = s.low })) None
 
 -- From h the search went on up to a limit: the entry has the limit; and from where the definition's search stops, the outcome is that search's, and if it is spent, it stops there again.
 pub record WentOn (h : Held) (limit : ℕ) (r : Gone) : Type 0 where
@@ -61,4 +60,4 @@ pub record WentOn (h : Held) (limit : ℕ) (r : Gone) : Type 0 where
   pub level : r.held.level ≡ h.level
   pub summed : r.held.limit ≡ limit
   pub found : Stopped h → r.found ≡ code_outcome (searched (held_trellis h) limit)
-  pub stopped : Stopped h → r.found ≡ Spent → Stopped r.held
+  pub stopped : Stopped h → r.found ≡ None → Stopped r.held

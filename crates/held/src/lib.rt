@@ -7,10 +7,12 @@
 pub mod ready;
 
 ghost use Rattle.std.specs.Prelude.{◌<◌, ◌≤◌, ◌≡◌, length};
-ghost use Rattle.held.specs.Entry.{nothing_held, begun_held};
+ghost use Rattle.stack.specs.Places.{path_key};
+ghost use Rattle.held.specs.Entry.{nothing_held, begun_held, last_of, paths_of};
 ghost use Rattle.held.specs.State.{outcome_at, Narrowed, Ready, WentOn};
 
-use search::{Progress, SearchOutcome};
+use search::{Found, Progress};
+use stack::{Path, Row, Stack};
 
 // A held search: its summed limit, its level and its column; the number of paths on the stack; the last path taken, its bits, its sum and its length; the lowest sum of those taken; the stack's three arrays, the bits in 32 where the search has 64.
 // It has taken as many paths as its limit says. A limit of 0: nothing is held.
@@ -30,6 +32,30 @@ pub struct Held {
     pub bits: [u32; 2002],
 }
 
+// The last path taken and those on the stack as the search has them.
+impl Held {
+    fn last_taken(&self) -> Path
+        ensures { path_key result ≡ last_of self.now }
+    {
+        Path {
+            sum: self.sum,
+            len: self.len,
+            bits: self.last,
+        }
+    }
+
+    fn path(&self, j: usize) -> Path
+        requires { j < 2002 }
+        ensures { path_key result ≡ paths_of self.now j }
+    {
+        Path {
+            sum: self.sums[j],
+            len: self.lens[j],
+            bits: u64::from(self.bits[j]),
+        }
+    }
+}
+
 // Nothing is held.
 pub fn nothing() -> Held
     ensures { result ≡ nothing_held }
@@ -42,10 +68,10 @@ pub fn nothing() -> Held
         sum: 0,
         low: 0,
         len: 0,
-        column: [0u8; 30],
-        lens: [0u8; 2002],
-        sums: [0i16; 2002],
-        bits: [0u32; 2002],
+        column: [0; 30],
+        lens: [0; 2002],
+        sums: [0; 2002],
+        bits: [0; 2002],
     }
 }
 
@@ -56,57 +82,51 @@ pub fn begin(soft: &[u8], level: u64) -> Held
 {
     let mut column = [0u8; 30];
     column.copy_from_slice(soft);
-    let mut held = nothing();
-    held.level = level;
-    held.low = search::NONE_TAKEN;
-    held.column = column;
-    held
+    Held {
+        level,
+        low: search::NONE_TAKEN,
+        column,
+        ..nothing()
+    }
 }
 
 // The bits of the paths as the search has them.
-fn widened(bits: [u32; 2002]) -> [u64; 2002]
-    ensures { result ≡ bits }
+fn widened(bits: &[u32; 2002]) -> [u64; 2002]
+    ensures { result ≡ bits.now }
 {
     let mut wide = [0u64; 2002];
-    let mut k: usize = 0;
-    while k < 2002 {
-        wide[k] = bits[k] as u64;
-        k += 1;
+    for k in 0..2002 {
+        wide[k] = u64::from(bits[k]);
     }
     wide
 }
 
 // The bits of the paths as they are held: a path has at most 30.
-fn narrowed(bits: [u64; 2002]) -> [u32; 2002]
-    ensures { Narrowed bits result }
+fn narrowed(bits: &[u64; 2002]) -> [u32; 2002]
+    ensures { Narrowed bits.now result }
 {
     let mut narrow = [0u32; 2002];
-    let mut k: usize = 0;
-    while k < 2002 {
+    for k in 0..2002 {
         narrow[k] = (bits[k] % 4294967296) as u32;
-        k += 1;
     }
     narrow
 }
 
 // What a search that stopped in a state has found.
-fn outcome_at(state: Progress) -> SearchOutcome
+fn outcome_at(state: Progress) -> Option<Found>
     ensures { result ≡ outcome_at state }
 {
-    if state.len == 30 {
-        return SearchOutcome::Found {
-            word: state.bits,
-            count: state.count,
-            low: state.low,
-        };
+    if state.last.len == 30 {
+        Some(state.found())
+    } else {
+        None
     }
-    SearchOutcome::Spent
 }
 
 // What a search that went on has found, and the search where it stopped.
 #[derive(Drop)]
 pub struct Gone {
-    pub found: SearchOutcome,
+    pub found: Option<Found>,
     pub held: Held,
 }
 
@@ -117,40 +137,33 @@ pub fn go_on(held: Held, limit: u64) -> Gone
     ensures { WentOn held limit result }
 {
     let tables = search::short_page::tables_of(held.level as usize, true);
-    let left = tables.left;
-    let right = tables.right;
-    let values = tables.values;
-    let column = held.column;
-    let mut sums = held.sums;
-    let mut lens = held.lens;
-    let narrow = held.bits;
-    let mut bits = widened(narrow);
-    let state = Progress {
+    let mut stack = Stack {
+        row: Row {
+            sums: held.sums,
+            lens: held.lens,
+            bits: widened(&held.bits),
+        },
         paths: held.paths,
+    };
+    let state = Progress {
         count: held.limit,
-        sum: held.sum,
-        len: held.len,
-        bits: held.last,
+        last: held.last_taken(),
         low: held.low,
     };
-    let end = search::run(
-        &mut sums, &mut lens, &mut bits, 30, &column, &left, &right, &values, state, limit,
-    );
-    let kept_bits = narrowed(bits);
+    let end = search::run(&mut stack, &tables.trellis(&held.column), state, limit);
     Gone {
         found: outcome_at(end),
         held: Held {
-            limit: limit,
-            level: held.level,
-            paths: end.paths,
-            last: end.bits,
-            sum: end.sum,
+            limit,
+            paths: stack.paths,
+            last: end.last.bits,
+            sum: end.last.sum,
             low: end.low,
-            len: end.len,
-            column: column,
-            lens: lens,
-            sums: sums,
-            bits: kept_bits,
+            len: end.last.len,
+            lens: stack.row.lens,
+            sums: stack.row.sums,
+            bits: narrowed(&stack.row.bits),
+            ..held
         },
     }
 }

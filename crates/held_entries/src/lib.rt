@@ -3,10 +3,10 @@
 
 ghost use Rattle.std.specs.Prelude.{◌≡◌};
 ghost use Rattle.store_held.specs.Calls.{empty_store};
-ghost use Rattle.held_entries.specs.Told.{HoldReplied, TakeReplied};
+ghost use Rattle.held_entries.specs.Told.{held_found_of, HoldReplied, TakeReplied};
 
 use entries::Found;
-use store_held::Store;
+use store_held::{HeldAnswer, Store};
 
 #[unsafe(no_mangle)]
 pub extern "C" fn entry_empty_store() -> Store
@@ -23,6 +23,17 @@ pub struct HeldFound {
     pub store: Store,
 }
 
+impl From<HeldAnswer> for HeldFound {
+    ghost from_gives = { λ outcome told. told ≡ held_found_of outcome };
+
+    fn from(outcome: HeldAnswer) -> HeldFound {
+        HeldFound {
+            found: outcome.answer.into(),
+            store: outcome.store,
+        }
+    }
+}
+
 #[unsafe(no_mangle)]
 pub extern "C" fn entry_hold_search(
     store: Store,
@@ -33,24 +44,12 @@ pub extern "C" fn entry_hold_search(
 ) -> HeldFound
     ensures { HoldReplied store name soft.now level limit result }
 {
-    let outcome = store_held::hold_search(store, name, soft, level, limit);
-    let answer = outcome.answer;
-    let after = outcome.store;
-    HeldFound {
-        found: entries::numbers_of_search(answer),
-        store: after,
-    }
+    store_held::hold_search(store, name, soft, level, limit).into()
 }
 
 #[unsafe(no_mangle)]
 pub extern "C" fn entry_take_up(store: Store, name: u64, limit: u64) -> HeldFound
     ensures { TakeReplied store name limit result }
 {
-    let outcome = store_held::take_up(store, name, limit);
-    let answer = outcome.answer;
-    let after = outcome.store;
-    HeldFound {
-        found: entries::numbers_of_search(answer),
-        store: after,
-    }
+    store_held::take_up(store, name, limit).into()
 }

@@ -1,5 +1,5 @@
 -- 01: "Known values", the cases marked P, in one table. Assumes nothing.
-use Rattle.std.specs.Prelude.{Bool, true, false, List, [], ◌∷◌, ◌≡◌, ℕ, ◌+◌, ◌*◌, ◌<◌, ℤ, pos, negsuc, replicate}
+use Rattle.std.specs.Prelude.{Bool, true, false, List, [], ◌∷◌, get_or, ◌≡◌, ℕ, ◌+◌, ◌*◌, ◌<◌, ℤ, pos, negsuc, replicate}
 use Rattle.field.specs.Element.{power, α}
 use Rattle.column.specs.Shape.{short}
 use Rattle.column.specs.Level.{column_of}
@@ -13,8 +13,7 @@ use Rattle.trellis.specs.Order.{sum, before}
 use Rattle.trellis.specs.Demand.{Search, whole, supercode}
 use Rattle.trellis.specs.TwoWords.{off}
 use Rattle.trellis.specs.Trellis.{WordFound, searched}
-use Rattle.searches.specs.Searches.{Is, search_answer}
-use Rattle.searches.specs.declared.SearchAnswer.{SearchAnswer}
+use Rattle.searches.specs.Searches.{SearchAnswer, Is, search_answer}
 use Rattle.known.specs.FourBits.{four_bit_whole, four_bit_supercode, values_of_001, soft_of_001, no_values, path001}
 
 -- what the definitions give, and what 01 says of it
@@ -67,9 +66,9 @@ cases =
     ∷ number (column_of short (1 ∷ 0 ∷ 0 ∷ 0 ∷ [])) 67
     ∷ number (column_of short (0 ∷ 1 ∷ 0 ∷ 0 ∷ [])) 5433
     -- symbols 0, 0, 0, 1 pack to bytes 0, 0, 1
-    ∷ number (bytes_of 0 0 0 1).b0 0
-    ∷ number (bytes_of 0 0 0 1).b1 0
-    ∷ number (bytes_of 0 0 0 1).b2 1
+    ∷ number (get_or (bytes_of (0 ∷ 0 ∷ 0 ∷ 1 ∷ [])) 0 0) 0
+    ∷ number (get_or (bytes_of (0 ∷ 0 ∷ 0 ∷ 1 ∷ [])) 1 0) 0
+    ∷ number (get_or (bytes_of (0 ∷ 0 ∷ 0 ∷ 1 ∷ [])) 2 0) 1
     -- soft 0 taken off by a one is 7; 3 becomes 4
     ∷ number (taken_off_by 1 0) 7
     ∷ number (taken_off_by 1 3) 4

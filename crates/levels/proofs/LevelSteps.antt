@@ -21,6 +21,7 @@ use Rattle.readings.specs.Steps.{RowRead}
 use Rattle.concatenated.specs.OuterCode.{short_outer}
 use Rattle.levels.specs.Levels.{Ended, LevelDone}
 use Rattle.levels.specs.declared.LevelOut.{LevelOut}
+use Rattle.std.specs.Prelude.{Option, Some, None}
 use Rattle.reedsolomon.proofs.Answers.{word_is_of_symbols}
 use Rattle.concatenated.proofs.Digits.{below_is_word}
 use Rattle.concatenated.proofs.Columns.{row_off_length, row_off_all}
@@ -85,24 +86,23 @@ module _ (i : ℕ) (h : i < 4) (rs : List Reading) (long : length rs ≡ 63) (z�
   settled_row_is_a_word e = row_is_a_word i h rs long new (is_row e)
 
   -- a level with no row, and one with a row; y is the lowest low point before it
-  pub level_refused : settled ≡ false → (y : ℤ) (work after : List (List ℕ)) (out : LevelOut) → out.settled ≡ false → Ended (decoded_row short short_outer i rs) i rs y work out after
-  level_refused e y work after out f = subst⁻¹ (λ (o : OuterAnswer). Ended o i rs y work out after) (no_row e) f
+  pub level_refused : settled ≡ false → (y : ℤ) (work after : List (List ℕ)) → Ended (decoded_row short short_outer i rs) i rs y work None after
+  level_refused e y work after = subst⁻¹ (λ (o : OuterAnswer). Ended o i rs y work None after) (no_row e) refl
 
-  pub level_settled : settled ≡ true → (y : ℤ) → z₀ ≡ y → (work after : List (List ℕ)) (out : LevelOut) → out.settled ≡ true → out.row ≡ new → out.changed ≡ mark_of (changed xs (map is_one ms) new) → out.erased ≡ mark_of (map is_one ms)
-      → out.count ≡ n → out.low ≡ z → after ≡ row_off short i new work → Ended (decoded_row short short_outer i rs) i rs y work out after
-  level_settled e y start work after out e0 e1 e2 e3 e4 e5 e6 =
+  pub level_settled : settled ≡ true → (y : ℤ) → z₀ ≡ y → (work after : List (List ℕ)) (cs es : ℕ) (low : ℤ) → cs ≡ mark_of (changed xs (map is_one ms) new) → es ≡ mark_of (map is_one ms) → low ≡ z
+      → after ≡ row_off short i new work → Ended (decoded_row short short_outer i rs) i rs y work (Some (record { row = new; changed = cs; erased = es; totals = record { steps = n; low = low } })) after
+  level_settled e y start work after cs es low ec ee el off =
       let marked : map is_one ms ≡ marks rs = ap (map is_one) read.marks_are ∙ flags_back (marks rs) in
-      subst⁻¹ (λ (o : OuterAnswer). Ended o i rs y work out after) (is_row e) (
-        e0,
-        e1,
-        e2 ∙ ap₂ (λ (x : List ℕ) (m : List Bool). mark_of (changed x m new)) read.symbols_are marked,
-        e3 ∙ ap mark_of marked,
-        e4 ∙ read.steps_are,
-        e5 ∙ read.low_is ∙ ap (λ (x : ℤ). lowest_from x (lows rs)) start,
-        e6,
+      subst⁻¹ (λ (o : OuterAnswer). Ended o i rs y work (Some (out_of cs es n low)) after) (is_row e) (
+        ap₂ (λ (c m : ℕ). Some (out_of c m n low)) (ec ∙ ap₂ (λ (x : List ℕ) (m : List Bool). mark_of (changed x m new)) read.symbols_are marked) (ee ∙ ap mark_of marked)
+            ∙ ap₂ (λ (k : ℕ) (y : ℤ). Some (out_of (mark_of (changed (symbols short i rs) (marks rs) new)) (mark_of (marks rs)) k y)) read.steps_are (el ∙ read.low_is ∙ ap (λ (x : ℤ). lowest_from x (lows rs)) start),
+        off,
       )
+    where
+      out_of : ℕ → ℕ → ℕ → ℤ → LevelOut
+      out_of cs es n low = record { row = new; changed = cs; erased = es; totals = record { steps = n; low = low } }
 
 -- a level is done, by the lowest low point before it as the caller has it
-pub level_done : (read : Reader) (i : ℕ) (z y : ℤ) (work after : List (List ℕ)) (out : LevelOut) → z ≡ y → Ended (decoded_row short short_outer i (map (read i) work)) i (map (read i) work) z work out after → LevelDone read i y work out after
+pub level_done : (read : Reader) (i : ℕ) (z y : ℤ) (work after : List (List ℕ)) (out : Option LevelOut) → z ≡ y → Ended (decoded_row short short_outer i (map (read i) work)) i (map (read i) work) z work out after → LevelDone read i y work out after
 unfolding LevelDone
 level_done read i z y work after out e = subst (λ (x : ℤ). Ended (decoded_row short short_outer i (map (read i) work)) i (map (read i) work) x work out after) e

@@ -1,140 +1,139 @@
 // Page decoding, level by level, on the columns of a soft page.
 #![tactic(auto)]
 
-ghost use Rattle.std.specs.Prelude.{List, ◌≡◌, ◌<◌, ◌≤◌, ℤ, length};
+ghost use Rattle.std.specs.Prelude.{List, Some, ◌≡◌, ◌<◌, ◌≤◌, ◌||◌, ℤ, length};
 ghost use Rattle.column.specs.Shape.{short};
-ghost use Rattle.stack.specs.Places.{Room};
 ghost use Rattle.reedsolomon.specs.Row.{Symbols};
 ghost use Rattle.concatenated.specs.Decode.{Reading, decoded_row};
+ghost use Rattle.concatenated.specs.Chip.{some_column, some_below};
 ghost use Rattle.concatenated.specs.OuterCode.{short_outer};
 ghost use Rattle.concatenated.specs.Arrays.{SoftColumns};
-ghost use Rattle.readings.specs.Steps.{way_reader, RowRead};
-ghost use Rattle.levels.specs.Levels.{Ended, LevelDone, ColumnsDone};
+ghost use Rattle.readings.specs.Steps.{RowRead};
+ghost use Rattle.levels.specs.Levels.{none_held, holding, Ended, LevelDone, FewSteps, ColumnsDone};
+ghost use Rattle.levels.specs.declared.LevelOut.{LevelOut};
 
-use list_of_two::Way;
-use readings::RowTotals;
+use questions::refusal::{Question, Refusal};
+use readings::{ColumnReader, Totals};
 use softpage::{rows, sets};
 
-// What a level gives: its row, the marks of its changed and erased columns, its steps, the lowest low point so far; or no word was in reach.
+// What a level gives: its row, the marks of its changed and erased columns, its steps and the lowest low point so far.
 #[derive(Drop)]
 pub struct LevelOut {
     pub row: [u8; 63],
     pub changed: u64,
     pub erased: u64,
-    pub count: u64,
-    pub low: i16,
-    pub settled: bool,
+    pub totals: Totals,
 }
 
-// The steps of all levels and their lowest low point, or the level that was refused.
+// What is held of the levels of a page: of each its row, and the marks of its changed and erased columns.
 #[derive(Drop)]
-pub enum ColumnsOutcome {
-    Answered(u64, i16),
-    Refused(u64),
+pub struct Levels {
+    pub rows: [[u8; 63]; 4],
+    pub changed: [u64; 4],
+    pub erased: [u64; 4],
 }
 
-// The rest of a level whose columns are read: the row is decoded, and its level words taken off.
-pub fn settle_level(
+impl Levels {
+    // Nothing is held yet.
+    pub fn new() -> Levels
+        ensures { result ≡ none_held }
+    {
+        Levels {
+            rows: [[0; 63]; 4],
+            changed: [0; 4],
+            erased: [0; 4],
+        }
+    }
+
+    // Holds what a level gave.
+    pub fn hold(&mut self, level: usize, out: LevelOut)
+        requires { level < 4 }
+        ensures { self.new ≡ holding self.old level out }
+    {
+        let row = out.row;
+        self.rows[level] = row;
+        self.changed[level] = out.changed;
+        self.erased[level] = out.erased;
+    }
+}
+
+// The rest of a level whose columns are read: the row is decoded, and its level words taken off. None: no word is in reach.
+fn settle_level(
     work: &mut [[u8; 30]; 63],
     level: usize,
     symbols: &[u8; 63],
     marks: &[u8; 63],
-    read: RowTotals,
-) -> LevelOut
+    totals: Totals,
+) -> Option<LevelOut>
     requires level_bound { (level < 4) × SoftColumns work.old × Symbols 6 symbols.now }
-    requires rs_len { (rs : List Reading) × (z : ℤ) × (length rs ≡ 63) × RowRead level rs z symbols.now marks.now read.steps read.low }
-    ensures ended { (rs : List Reading) (z : ℤ) → length rs ≡ 63 → RowRead level rs z symbols.now marks.now read.steps read.low
+    requires rs_len { (rs : List Reading) × (z : ℤ) × (length rs ≡ 63) × RowRead level rs z symbols.now marks.now totals.steps totals.low }
+    ensures ended { (rs : List Reading) (z : ℤ) → length rs ≡ 63 → RowRead level rs z symbols.now marks.now totals.steps totals.low
         → Ended (decoded_row short short_outer level rs) level rs z work.old result work.new }
-    ensures count_value { (result.count ≡ read.steps) × SoftColumns work.new }
+    ensures count_value { (out : LevelOut) → result ≡ Some out → out.totals.steps ≡ totals.steps }
+    ensures soft_columns { SoftColumns work.new }
 {
     let mut row = [0u8; 63];
-    let settled = outer::decode(symbols, marks, outer::roots(level), &mut row);
-    if settled {
-        let changed = sets::changed_mark(symbols, marks, &row);
-        let erased = sets::mark_of(marks);
-        rows::take_off(&mut *work, level, &row);
-        return LevelOut {
-            row: row,
-            changed: changed,
-            erased: erased,
-            count: read.steps,
-            low: read.low,
-            settled: true,
-        };
+    if !outer::decode(symbols, marks, outer::roots(level), &mut row) {
+        return None;
     }
-    LevelOut {
-        row: row,
-        changed: 0,
-        erased: 0,
-        count: read.steps,
-        low: read.low,
-        settled: false,
-    }
+    rows::take_off(work, level, &row);
+    Some(LevelOut {
+        row,
+        changed: sets::changed_mark(symbols, marks, &row),
+        erased: sets::mark_of(marks),
+        totals,
+    })
 }
 
 // One level: the columns are read, the row decoded, and its level words taken off.
-fn decode_level(
+fn decode_level<R: ColumnReader>(
     work: &mut [[u8; 30]; 63],
     level: usize,
-    way: Way,
+    reader: &R,
     lowest: i16,
-    sums: &mut [i16; 2002],
-    lens: &mut [u8; 2002],
-    bits: &mut [u64; 2002],
-) -> LevelOut
-    requires { (level < 4) × (way.limit ≤ 2000) × SoftColumns work.old × Room sums.old lens.old bits.old }
-    ensures { LevelDone (way_reader way) level lowest work.old result work.new × (result.count ≤ 126000)
-        × SoftColumns work.new × Room sums.new lens.new bits.new }
+    scratch: &mut R::Scratch,
+) -> Option<LevelOut>
+    requires { (level < 4) × (R.limit reader.now ≤ 2000) × SoftColumns work.old }
+    ensures { LevelDone (R.reader reader.now) level lowest work.old result work.new × FewSteps result × SoftColumns work.new
+        × (R.noted scratch.new ≡ (R.noted scratch.old || some_column (R.test reader.now level) work.old)) }
 {
     let mut symbols = [0u8; 63];
     let mut marks = [0u8; 63];
-    let read = readings::read_row(
+    let totals = readings::read_row(
         level,
         &*work,
-        way,
+        reader,
         lowest,
-        sums,
-        lens,
-        bits,
+        scratch,
         &mut symbols,
         &mut marks,
     );
-    settle_level(work, level, &symbols, &marks, read)
+    settle_level(work, level, &symbols, &marks, totals)
 }
 
-// The levels of a page, on its columns; what the arrays hold after a refusal is not told.
-pub fn decode_columns(
+// The levels of a page, on its columns: the steps of all levels and their lowest low point. Refused by 10, whose place is the level; what the arrays hold then is not told.
+pub fn decode_columns<R: ColumnReader>(
     work: &mut [[u8; 30]; 63],
-    way: Way,
-    sums: &mut [i16; 2002],
-    lens: &mut [u8; 2002],
-    bits: &mut [u64; 2002],
-    held: &mut [[u8; 63]; 4],
-    changed: &mut [u64; 4],
-    erased: &mut [u64; 4],
-) -> ColumnsOutcome
-    requires { (way.limit ≤ 2000) × SoftColumns work.old × Room sums.old lens.old bits.old
-        × (length held.old ≡ 4) × (length changed.old ≡ 4) × (length erased.old ≡ 4) }
-    ensures { ColumnsDone (way_reader way) work.old result held.new changed.new erased.new }
+    reader: &R,
+    scratch: &mut R::Scratch,
+    held: &mut Levels,
+) -> Result<Totals, Refusal>
+    requires { (R.limit reader.now ≤ 2000) × SoftColumns work.old }
+    ensures { ColumnsDone (R.reader reader.now) work.old result held.new
+        × (R.noted scratch.new ≡ (R.noted scratch.old || some_below short short_outer (R.reader reader.now) work.old (R.test reader.now) 4)) }
 {
-    let mut sum: u64 = 0;
-    let mut low: i16 = search::NONE_TAKEN;
-    let mut level: usize = 0;
-    while level < 4 {
-        let out = decode_level(
-            &mut *work, level, way, low, &mut *sums, &mut *lens, &mut *bits,
-        );
-        let settled = out.settled;
-        if !settled {
-            return ColumnsOutcome::Refused(level as u64);
-        }
-        let r = out.row;
-        held[level] = r;
-        changed[level] = out.changed;
-        erased[level] = out.erased;
-        sum += out.count;
-        low = out.low;
-        level += 1;
+    let mut steps = 0;
+    let mut low = search::NONE_TAKEN;
+    for level in 0..4 {
+        let Some(out) = decode_level(&mut *work, level, reader, low, &mut *scratch) else {
+            return Err(Refusal {
+                question: Question::Reach,
+                place: level as u64,
+            });
+        };
+        steps += out.totals.steps;
+        low = out.totals.low;
+        held.hold(level, out);
     }
-    ColumnsOutcome::Answered(sum, low)
+    Ok(Totals { steps, low })
 }

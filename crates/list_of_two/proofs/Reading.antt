@@ -4,13 +4,10 @@ use mathlib.Core.List.{List, [], ◌∷◌}
 use mathlib.Core.Logic.{⊎_elim}
 use mathlib.Core.Path.{◌≡◌, refl, sym, ap, ap₂, ◌∙◌, subst, subst⁻¹}
 use Prim.Native.Nat.{ℕ, zero, suc, ◌+◌, ◌*◌, ◌/◌, ◌≤◌, ◌<◌}
-use native.Mathlib.Nat.{eq-or-lt_of_le}
-use native.Mathlib.Decide.{ℕ_discrete}
 use native.Mathlib.Omega.{arith}
 use lib.Dec.{ltb}
 use lib.IntN.{ℤ, pos, nat_abs, ◌+ℤ◌}
-use lib.ListN.{length, length-set, get_or, set}
-use lib.Seq.{get_or-set_same, get_or-set_other}
+use lib.ListN.{length, get_or}
 use lib.Signed.{◌≤ℤ◌}
 use borrow.Author.Tests.{ltb-true, ltb-false}
 use mir.Syntax.{w16}
@@ -119,18 +116,3 @@ picked_near table agreeing picked near q h = subst⁻¹ (λ (x : ℤ). nat_abs x
 pub record PickedTo (q : ℕ) (table agreeing : List ℤ) : Type 0 where
   pub count : length agreeing ≡ 8
   pub entry : (j : ℕ) → j < q → get_or agreeing j (pos 0) ≡ get_or table (j / 4 * 8 + j) (pos 0)
-
-pub one_more_picked : (q : ℕ) (table agreeing : List ℤ) (x : ℤ) → q < 8 → x ≡ get_or table (q / 4 * 8 + q) (pos 0) → PickedTo q table agreeing → PickedTo (q + 1) table (set agreeing q x)
-one_more_picked q table agreeing x h e picked = record { count = simp length-set picked.count; entry = entry }
-  where
-    before : (j : ℕ) → j < q + 1 → (j ≡ q → ⊥) → j < q
-    before j l p = ⊎_elim (λ s. let t : j ≡ q = omega arith in absurd (p t)) (λ s. omega arith) (eq-or-lt_of_le l)
-
-    entry : (j : ℕ) → j < q + 1 → get_or (set agreeing q x) j (pos 0) ≡ get_or table (j / 4 * 8 + j) (pos 0)
-    entry j l = elim (ℕ_discrete j q) [
-      | yes p ↦ ap (λ (t : ℕ). get_or (set agreeing q x) t (pos 0)) p ∙ get_or-set_same agreeing q x (pos 0) (omega (arith, picked.count)) ∙ e ∙ ap (λ (t : ℕ). get_or table (t / 4 * 8 + t) (pos 0)) (sym p)
-      | no p ↦ get_or-set_other agreeing q j x (pos 0) p ∙ picked.entry j (before j l p)
-    ]
-
-pub all_picked : (q : ℕ) (table agreeing : List ℤ) → q ≡ 8 → PickedTo q table agreeing → AgreeingOf table agreeing
-all_picked q table agreeing e picked = record { count = picked.count; entry = λ j l. picked.entry j (omega arith) }

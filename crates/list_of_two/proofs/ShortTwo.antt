@@ -1,5 +1,5 @@
 -- The short page's search in a way, by lent tables, is 01's search, or 02's with list of two, with the values of the level. Assumes nothing.
-use mathlib.Core.Bool.{Bool, true, false, cond}
+use mathlib.Core.Bool.{Bool, true, false, cond, true≢false, false≢true}
 use mathlib.Core.List.{List}
 use mathlib.Core.Path.{◌≡◌, refl, sym, ap, ap₂, ◌∙◌}
 use Prim.Native.Nat.{ℕ, ◌^◌, ◌≤◌, ◌<◌}
@@ -33,36 +33,50 @@ use Rattle.trellis.proofs.HardPath.{hard_path_below}
 use Rattle.trellis.proofs.TwoKeys.{key_search_two_is_list_of_two, hard_reading_is_answered}
 use Rattle.extension.specs.Steps.{TableOf}
 use Rattle.search.specs.Outcomes.{outcome_of, code_outcome, TablesFor}
-use Rattle.search.specs.declared.SearchOutcome.{SearchOutcome}
-use Rattle.search.specs.declared.SearchOutcome.TheVariants.{Found}
+use Rattle.std.specs.Prelude.{Option, None, Some, is_some, unwrap_or}
+use Rattle.search.specs.declared.Found.{Found}
 use Rattle.search.proofs.ShortSearch.{by_number, level_table, level_not_above, search_short}
 use Rattle.list_of_two.specs.Hard.{checked_word}
-use Rattle.list_of_two.specs.declared.HardReading.{HardReading}
-use Rattle.list_of_two.specs.declared.HardReading.TheVariants.{Word, NoWord}
-use Rattle.list_of_two.specs.Ways.{chosen, threshold_of, unsearched_word}
+use Rattle.list_of_two.specs.Ways.{choice, threshold_of, unsearched_word}
 use Rattle.list_of_two.proofs.Checked.{read_below_is_word, read_above_is_no_word}
 
 -- a hard reading is a word or none
-never : {X : Type 0} (x : ℕ) → NoWord ≡ Word x → X
+never : {X : Type 0} (x : ℕ) → None ≡ Some x → X
 never x e = let no : ◌≡◌ {A = ℕ} 0 1 = cc in absurd (omega arith)
 
 -- what the code's test of the hard reading, read with its remainder, says
-module _ (second : Bool) (threshold : ℤ) (i : ℕ) (soft : List ℕ) (read : ℕ) (with_list : second ≡ true) (e : read ≡ checked_word i (number (hard_path soft 30))) where
-  abbrev told : Bool → HardReading
-  told b = cond b (Word (number (hard_path soft 30))) NoWord
+module _ (i : ℕ) (soft : List ℕ) (read : ℕ) (e : read ≡ checked_word i (number (hard_path soft 30))) where
+  abbrev told : Bool → Option ℕ
+  told b = cond b (Some (number (hard_path soft 30))) None
 
-  pub is_unsearched : read < 2 ^ 30 → Word read ≡ unsearched_word (chosen second threshold) i soft
-  is_unsearched below =
+  pub is_unsearched : (threshold : Option ℤ) → is_some threshold ≡ true → read < 2 ^ 30 → Some read ≡ unsearched_word (choice threshold) i soft
+  is_unsearched None with_list below = absurd (false≢true with_list)
+  is_unsearched (Some threshold) with_list below =
       let word = read_below_is_word i _ read (hard_path_below soft 30) e below in
-      ap Word word.0 ∙ ap told (sym (sym (ap (is_word short i) word.0) ∙ word.1)) ∙ ap (λ (s : Bool). unsearched_word (chosen s threshold) i soft) (sym with_list)
+      ap Some word.0 ∙ ap told (sym (sym (ap (is_word short i) word.0) ∙ word.1))
 
-  pub is_searched : 2 ^ 30 ≤ read → NoWord ≡ unsearched_word (chosen second threshold) i soft
-  is_searched above = ap told (sym (read_above_is_no_word i _ read (hard_path_below soft 30) e above)) ∙ ap (λ (s : Bool). unsearched_word (chosen s threshold) i soft) (sym with_list)
+  pub is_searched : (threshold : Option ℤ) → is_some threshold ≡ true → 2 ^ 30 ≤ read → None ≡ unsearched_word (choice threshold) i soft
+  is_searched None with_list above = absurd (false≢true with_list)
+  is_searched (Some threshold) with_list above = ap told (sym (read_above_is_no_word i _ read (hard_path_below soft 30) e above))
+
+-- without list of two nothing is returned unsearched
+pub none_unsearched : (threshold : Option ℤ) (i : ℕ) (soft : List ℕ) → is_some threshold ≡ false → None ≡ unsearched_word (choice threshold) i soft
+none_unsearched None i soft e = refl
+none_unsearched (Some t) i soft e = absurd (true≢false e)
 
 -- only with list of two is a word returned unsearched
-pub word_is_of_the_list : (second : Bool) (threshold : ℤ) (i : ℕ) (soft : List ℕ) (x : ℕ) → unsearched_word (chosen second threshold) i soft ≡ Word x → second ≡ true
-word_is_of_the_list true threshold i soft x e = refl
-word_is_of_the_list false threshold i soft x e = never x e
+pub word_is_of_the_list : (threshold : Option ℤ) (i : ℕ) (soft : List ℕ) (x : ℕ) → unsearched_word (choice threshold) i soft ≡ Some x → is_some threshold ≡ true
+word_is_of_the_list (Some threshold) i soft x e = refl
+word_is_of_the_list None i soft x e = never x e
+
+-- the threshold that the search is given
+pub threshold_given : (threshold : Option ℤ) → unwrap_or threshold (negsuc 32767) ≡ threshold_of (choice threshold)
+threshold_given None = refl
+threshold_given (Some t) = refl
+
+-- a word that is returned unsearched
+abbrev word_found : ℕ → ℤ → Option Found
+word_found y t = Some (record { word = y; count = 0; low = t })
 
 -- no number of 16 bits is below the lowest
 near_is_not_below : (z : ℤ) → nat_abs z ≤ 32768 → lt_z z (negsuc 32767) ≡ false
@@ -74,17 +88,17 @@ module _ (i : ℕ) (h : i < 4) (soft left right : List ℕ) (table : List ℤ) (
   vs = level_values i
 
   -- the hard reading is a word, returned unsearched
-  pub word_is_returned : (choice : Choice) (x : ℕ) → unsearched_word choice i soft ≡ Word x → (z : ℤ) → SFits w16 z → ((vs : Values) → TableOf vs table → z ≡ low_point (sum vs soft) (hard_path soft 30))
-      → Found x 0 (to_z w16 (of_z w16 z)) ≡ code_outcome (searched_by choice s short (level_values i) limit soft i)
+  pub word_is_returned : (choice : Choice) (x : ℕ) → unsearched_word choice i soft ≡ Some x → (z : ℤ) → SFits w16 z → ((vs : Values) → TableOf vs table → z ≡ low_point (sum vs soft) (hard_path soft 30))
+      → Some (record { word = x; count = 0; low = to_z w16 (of_z w16 z) }) ≡ code_outcome (searched_by choice s short (level_values i) limit soft i)
   unfolding code_outcome
   word_is_returned off x e z fits low = never x e
   word_is_returned (on threshold) x e z fits low = go (is_word short i (number (hard_path soft 30))) refl e
     where
-      go : (b : Bool) → is_word short i (number (hard_path soft 30)) ≡ b → cond b (Word (number (hard_path soft 30))) NoWord ≡ Word x
-          → Found x 0 (to_z w16 (of_z w16 z)) ≡ code_outcome (searched_by (on threshold) s short (level_values i) limit soft i)
+      go : (b : Bool) → is_word short i (number (hard_path soft 30)) ≡ b → cond b (Some (number (hard_path soft 30))) None ≡ Some x
+          → Some (record { word = x; count = 0; low = to_z w16 (of_z w16 z) }) ≡ code_outcome (searched_by (on threshold) s short (level_values i) limit soft i)
       go false is e = never x e
       go true is e =
-          ap₂ (λ (y : ℕ). Found y 0) (sym cc) (to_z-of_z fits ∙ low vs (level_table s i left right table tables))
+          ap₂ (λ (y : ℕ) (t : ℤ). word_found y t) (sym cc) (to_z-of_z fits ∙ low vs (level_table s i left right table tables))
           ∙ sym (ap code_outcome (hard_reading_is_answered short i (searchable i h) vs soft s threshold limit is))
 
   abbrev t : Tree
@@ -116,12 +130,12 @@ module _ (i : ℕ) (h : i < 4) (soft left right : List ℕ) (table : List ℤ) (
       ∙ sym found
 
   -- it is none: the column is searched
-  pub column_is_searched : (choice : Choice) → unsearched_word choice i soft ≡ NoWord → (r : SearchOutcome) → ((vs : Values) → TableOf vs table → r ≡ outcome_of (key_search_two 30 vs soft left right (threshold_of choice) limit))
+  pub column_is_searched : (choice : Choice) → unsearched_word choice i soft ≡ None → (r : Option Found) → ((vs : Values) → TableOf vs table → r ≡ outcome_of (key_search_two 30 vs soft left right (threshold_of choice) limit))
       → r ≡ code_outcome (searched_by choice s short (level_values i) limit soft i)
   column_is_searched off e r f = search_short s i h soft left right table tables limit r (f vs (level_table s i left right table tables) ∙ ap outcome_of one_is_searched)
   column_is_searched (on threshold) e r f = go (is_word short i (number (hard_path soft 30))) refl e
     where
-      go : (b : Bool) → is_word short i (number (hard_path soft 30)) ≡ b → cond b (Word (number (hard_path soft 30))) NoWord ≡ NoWord → r ≡ code_outcome (searched_by (on threshold) s short (level_values i) limit soft i)
+      go : (b : Bool) → is_word short i (number (hard_path soft 30)) ≡ b → cond b (Some (number (hard_path soft 30))) None ≡ None → r ≡ code_outcome (searched_by (on threshold) s short (level_values i) limit soft i)
       go true is e = never (number (hard_path soft 30)) (sym e)
       go false is e =
           f vs (level_table s i left right table tables)

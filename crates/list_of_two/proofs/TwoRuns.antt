@@ -9,7 +9,6 @@ use lib.IntN.{ℤ, pos}
 use lib.Signed.{lt_z}
 use mir.Syntax.{w16}
 use mir.Val.{SFits, to_z, of_z}
-use mir.Facts.{to_z-of_z}
 use Rattle.paths.specs.Stack.{Nodes, grow}
 use Rattle.paths.specs.Search.{SearchResult, answer, spent}
 use Rattle.paths.specs.Keys.{WithLow, run_keys, stack_after, low_after}
@@ -23,7 +22,8 @@ use Rattle.stack.specs.Places.{Upto}
 use Rattle.stack.proofs.Sums.{lt_flag}
 use Rattle.search.specs.Progress.{Going, Answered, Ended, Reached}
 use Rattle.search.specs.Outcomes.{outcome_of}
-use Rattle.search.specs.declared.SearchOutcome.TheVariants.{Found, Spent}
+use Rattle.std.specs.Prelude.{Option, None, Some}
+use Rattle.search.specs.declared.Found.{Found}
 use Rattle.search.proofs.Continues.{start_grows, word_is_taken, answer_is, spent_is}
 
 -- a number as a signed local hands it on
@@ -58,7 +58,6 @@ pub record First (g : Task) (f : ℕ → Key) (m c : ℕ) (y : Key) (z : ℤ) : 
   pub some : 0 < g.n
   pub threshold_fits : SFits w16 g.threshold
   pub sum_fits : SFits w16 y.sum
-  pub low_fits : SFits w16 z
   pub reached : Reached (K g) g.n g.limit f 0 (key (pos 0) 0 0) none_taken [] m c y z
 
 -- where a search stands: how many paths are on the stack, how many were taken, the last of them, and their lowest sum
@@ -100,11 +99,14 @@ module _ {Given : Values → Type 0} {task : Values → Task} {f : ℕ → Key} 
 pub record Second (g : Task) (f : ℕ → Key) (m c : ℕ) (y : Key) (z : ℤ) (f' : ℕ → Key) (m' c' : ℕ) (y' : Key) (z' : ℤ) : Type 0 where
   pub taken : Taken g f (record { paths = m; count = c; last = y; low = z })
   pub sum_fits : SFits w16 y'.sum
-  pub low_fits : SFits w16 z'
   pub reached : (xs : List Key) → Holds Upto f m xs → Reached (K g) g.n g.limit f' c y z xs m' c' y' z'
 
+-- a word found, as the code has it
+abbrev found : ℕ → ℕ → ℤ → Option Found
+found w c z = Some (record { word = w; count = c; low = z })
+
 -- an outcome is not both
-never : {X : Type 0} (w c : ℕ) (z : ℤ) → Spent ≡ Found w c z → X
+never : {X : Type 0} (w c : ℕ) (z : ℤ) → None ≡ found w c z → X
 never w c z e = let no : ◌≡◌ {A = ℕ} 0 1 = cc in absurd (omega arith)
 
 abbrev by_sum : WithLow Key → ℤ
@@ -120,11 +122,11 @@ with_low y z = record { key = y; low = z }
 module _ {g : Task} {f : ℕ → Key} {m c : ℕ} {y : Key} {z : ℤ} where
   module _ (a : First g f m c y z) where
     -- no first word
-    pub none_is : (y.len ≡ g.n → ⊥) → Spent ≡ outcome_of (two g)
+    pub none_is : (y.len ≡ g.n → ⊥) → None ≡ outcome_of (two g)
     unfolding key_search_two after_first returned outcome_of
     none_is partial = go (once g) (spent_is g.n g.limit g.vs g.soft g.left g.right f m c y z a.some a.reached partial)
       where
-        go : (o : SearchResult (WithLow Key)) → Spent ≡ outcome_of o → Spent ≡ outcome_of (returned by_sum g.limit (after_first by_sum g.threshold (further g) o))
+        go : (o : SearchResult (WithLow Key)) → None ≡ outcome_of o → None ≡ outcome_of (returned by_sum g.limit (after_first by_sum g.threshold (further g) o))
         go (answer k d) e = never k.key.bits d k.low e
         go (spent d) e = refl
 
@@ -136,9 +138,9 @@ module _ {g : Task} {f : ℕ → Key} {m c : ℕ} {y : Key} {z : ℤ} where
         ∙ ap (λ (t : Bool). returned by_sum g.limit (cond t (after_second (with_low y z) (further g c)) (one_word (with_low y z) c))) (lt_flag y.sum g.threshold a.sum_fits a.threshold_fits e)
 
     -- its sum is not below the threshold
-    pub one_is : y.len ≡ g.n → lt_z (handed y.sum) (handed g.threshold) ≡ false → Found y.bits c (handed z) ≡ outcome_of (two g)
+    pub one_is : y.len ≡ g.n → lt_z (handed y.sum) (handed g.threshold) ≡ false → found y.bits c z ≡ outcome_of (two g)
     unfolding outcome_of returned
-    one_is full e = ap (Found y.bits c) (to_z-of_z a.low_fits) ∙ sym (ap outcome_of (by_threshold full e))
+    one_is full e = sym (ap outcome_of (by_threshold full e))
 
   module _ {f' : ℕ → Key} {m' c' : ℕ} {y' : Key} {z' : ℤ} (b : Second g f m c y z f' m' c' y' z') where
     -- the word that the first run took
@@ -185,11 +187,11 @@ module _ {g : Task} {f : ℕ → Key} {m c : ℕ} {y : Key} {z : ℤ} where
     by_second e = sym (ap outcome_of (by_threshold b.taken.first b.taken.full b.taken.below ∙ ap (λ (x : SearchResult (WithLow Key)). returned by_sum g.limit (after_second (with_low y z) x)) e))
 
     -- no second word
-    pub ended_is : (y'.len ≡ g.n → ⊥) → Found y.bits g.limit (handed z) ≡ outcome_of (two g)
+    pub ended_is : (y'.len ≡ g.n → ⊥) → found y.bits g.limit z ≡ outcome_of (two g)
     unfolding outcome_of returned after_second
-    ended_is partial = ap (Found y.bits g.limit) (to_z-of_z b.taken.first.low_fits) ∙ go came
+    ended_is partial = go came
       where
-        go : Came → Found y.bits g.limit z ≡ outcome_of (two g)
+        go : Came → found y.bits g.limit z ≡ outcome_of (two g)
         go (inl s) = absurd (partial s.0)
         go (inr s) = by_second s.2
 
@@ -200,21 +202,21 @@ module _ {g : Task} {f : ℕ → Key} {m c : ℕ} {y : Key} {z : ℤ} where
         ap (λ (t : Bool). outcome_of (answer (cond t (with_low y' z') (with_low y z)) c')) (sym (lt_flag y.sum y'.sum b.taken.first.sum_fits b.sum_fits e)) ∙ by_second k
 
     -- the second word has the larger sum
-    pub second_is : y'.len ≡ g.n → lt_z (handed y.sum) (handed y'.sum) ≡ true → Found y'.bits c' (handed z') ≡ outcome_of (two g)
+    pub second_is : y'.len ≡ g.n → lt_z (handed y.sum) (handed y'.sum) ≡ true → found y'.bits c' z' ≡ outcome_of (two g)
     unfolding outcome_of
-    second_is full e = ap (Found y'.bits c') (to_z-of_z b.low_fits) ∙ go came
+    second_is full e = go came
       where
-        go : Came → Found y'.bits c' z' ≡ outcome_of (two g)
+        go : Came → found y'.bits c' z' ≡ outcome_of (two g)
         go (inl s) = by_sum_lem e s.1
         go (inr (inl h, d, s)) = absurd (omega arith)
         go (inr (inr h, d, s)) = absurd (strict_int.irreflexive y.sum (ap (λ (k : Key). lt_z y.sum k.sum) (sym h.0) ∙ lt_flag y.sum y'.sum b.taken.first.sum_fits b.sum_fits e))
 
     -- it has not: the first word, also where no step was left
-    pub first_is : y'.len ≡ g.n → lt_z (handed y.sum) (handed y'.sum) ≡ false → Found y.bits c' (handed z) ≡ outcome_of (two g)
+    pub first_is : y'.len ≡ g.n → lt_z (handed y.sum) (handed y'.sum) ≡ false → found y.bits c' z ≡ outcome_of (two g)
     unfolding outcome_of returned after_second
-    first_is full e = ap (Found y.bits c') (to_z-of_z b.taken.first.low_fits) ∙ go came
+    first_is full e = go came
       where
-        go : Came → Found y.bits c' z ≡ outcome_of (two g)
+        go : Came → found y.bits c' z ≡ outcome_of (two g)
         go (inl s) = by_sum_lem e s.1
         go (inr (inl h, d, s)) = absurd (omega arith)
-        go (inr (inr h, d, s)) = ap (λ (k : ℕ). Found y.bits k z) h.1 ∙ by_second s
+        go (inr (inr h, d, s)) = ap (λ (k : ℕ). found y.bits k z) h.1 ∙ by_second s

@@ -6,211 +6,133 @@
 
 pub mod hard;
 
-ghost use Rattle.std.specs.Prelude.{true, ◌≡◌, ℕ, ◌<◌, ◌≤◌, length, get_or};
+ghost use Rattle.std.specs.Prelude.{true, ◌≡◌, ℕ, ◌<◌, ◌≤◌, is_some, length, get_or};
 ghost use Rattle.column.specs.Shape.{short};
 ghost use Rattle.trellis.specs.Values.{Values, level_values};
 ghost use Rattle.trellis.specs.Demand.{Search};
 ghost use Rattle.trellis.specs.TwoWords.{searched_by, key_search_two, threshold_allowed};
-ghost use Rattle.stack.specs.Places.{Room};
-ghost use Rattle.extension.specs.Steps.{Given, TableOf};
+ghost use Rattle.extension.specs.Steps.{TableOf};
+ghost use Rattle.extension.specs.Lent.{GivenBy};
 ghost use Rattle.search.specs.Outcomes.{outcome_of, code_outcome, TablesFor, Searchable30};
 ghost use Rattle.list_of_two.specs.Hard.{ChecksFor, HardFor};
-ghost use Rattle.list_of_two.specs.Ways.{chosen, choice_of, threshold_of, unsearched_word};
+ghost use Rattle.list_of_two.specs.Ways.{choice, choice_of, unsearched_word};
 
-use search::{Progress, SearchOutcome};
+use extension::Trellis;
+use hard::HardTables;
+use search::{Found, Progress};
+use stack::Stack;
 
-// The search of a soft column for a first word and, if its sum is below the threshold, for a second one under the same limit; the arrays may hold anything.
+// The search of a soft column for a first word and, if its sum is below the threshold, for a second one under the same limit; the stack may hold anything.
 // One call of `run` serves both searches: so it stands in the code once, in the loop over the columns of a page.
 pub fn search_words(
-    sums: &mut [i16; 2002],
-    lens: &mut [u8; 2002],
-    bits: &mut [u64; 2002],
-    n: u8,
-    col: &[u8],
-    left: &[u64],
-    right: &[u64],
-    values: &[i16; 16],
+    stack: &mut Stack,
+    trellis: &Trellis,
     threshold: i16,
     limit: u64,
-) -> SearchOutcome
+) -> Option<Found>
     requires limit_bound { limit ≤ 2000 }
-    requires given { Given n col.now left.now right.now values.now }
-    requires room { Room sums.old lens.old bits.old }
-    ensures room_2 { Room sums.new lens.new bits.new }
-    ensures value { (vs : Values) → TableOf vs values.now
-        → result ≡ outcome_of (key_search_two n vs col.now left.now right.now threshold limit) }
+    requires given { GivenBy trellis.now }
+    ensures { (vs : Values) → TableOf vs trellis.now.values.now
+        → result ≡ outcome_of (key_search_two trellis.now.n vs trellis.now.col.now trellis.now.left.now trellis.now.right.now threshold limit) }
 {
+    stack.clear();
     // the first word, when it is taken
-    let mut first = Progress {
-        paths: 0,
-        count: 0,
-        sum: 0,
-        len: 0,
-        bits: 0,
-        low: search::NONE_TAKEN,
-    };
+    let mut first = Progress::START;
     loop {
-        let end = search::run(
-            &mut *sums, &mut *lens, &mut *bits, n, col, left, right, values, first, limit,
-        );
-        if first.len == n {
-            if end.len != n {
-                return SearchOutcome::Found {
-                    word: first.bits,
+        let end = search::run(stack, trellis, first, limit);
+        if first.last.len == trellis.n {
+            if end.last.len != trellis.n {
+                return Some(Found {
                     count: limit,
-                    low: first.low,
-                };
+                    ..first.found()
+                });
             }
             // with no step left the last path taken is still the first word, whose sum is not above its own
-            if first.sum < end.sum {
-                return SearchOutcome::Found {
-                    word: end.bits,
-                    count: end.count,
-                    low: end.low,
-                };
+            if first.last.sum < end.last.sum {
+                return Some(end.found());
             }
-            return SearchOutcome::Found {
-                word: first.bits,
+            return Some(Found {
                 count: end.count,
-                low: first.low,
-            };
+                ..first.found()
+            });
         }
-        if end.len != n {
-            return SearchOutcome::Spent;
+        if end.last.len != trellis.n {
+            return None;
         }
-        if end.sum < threshold {
+        if end.last.sum < threshold {
             first = end;
         } else {
-            return SearchOutcome::Found {
-                word: end.bits,
-                count: end.count,
-                low: end.low,
-            };
+            return Some(end.found());
         }
     }
 }
 
-// How a column is searched: the limit, the search, and whether a second word may be sought, below which sum of the first.
+// How a column is searched: the limit, the search, and with list of two the sum of the first word below which a second one is sought.
 #[derive(Clone, Copy)]
 pub struct Way {
     pub limit: u64,
     pub in_supercodes: bool,
-    pub second: bool,
-    pub threshold: i16,
+    pub threshold: Option<i16>,
 }
 
 // Whether a call may be given the threshold; without list of two there is none to ask about.
-pub fn threshold_allowed(second: bool, threshold: i64) -> bool
-    ensures { result ≡ threshold_allowed (chosen second threshold) }
+pub fn threshold_allowed(threshold: Option<i64>) -> bool
+    ensures { result ≡ threshold_allowed (choice threshold) }
 {
-    if !second {
-        return true;
+    match threshold {
+        Some(sum) => -2000 <= sum && sum <= 2000,
+        None => true,
     }
-    if threshold < -2000 {
-        return false;
-    }
-    if 2000 < threshold {
-        return false;
-    }
-    true
 }
 
-// The way that a call's limit, flags and threshold name.
-pub fn way_of(limit: u64, in_supercodes: bool, second: bool, threshold: i64) -> Way
-    requires { threshold_allowed (chosen second threshold) ≡ true }
-    ensures limit_value { (result.limit ≡ limit) × (result.in_supercodes ≡ in_supercodes) × (choice_of result ≡ chosen second threshold) }
-    ensures second_value { result.second ≡ second }
+// The way that a call's limit, flag and threshold name.
+pub fn way_of(limit: u64, in_supercodes: bool, threshold: Option<i64>) -> Way
+    requires { threshold_allowed (choice threshold) ≡ true }
+    ensures { (result.limit ≡ limit) × (result.in_supercodes ≡ in_supercodes) × (result.threshold ≡ threshold) }
 {
-    if !second {
-        return Way {
-            limit: limit,
-            in_supercodes: in_supercodes,
-            second: false,
-            threshold: 0,
-        };
-    }
+    let threshold = match threshold {
+        Some(sum) => Some(sum as i16),
+        None => None,
+    };
     Way {
-        limit: limit,
-        in_supercodes: in_supercodes,
-        second: true,
-        threshold: threshold as i16,
+        limit,
+        in_supercodes,
+        threshold,
     }
 }
 
-// The sum of the first word below which a second one is sought; without list of two the lowest number of 16 bits, which no sum is below.
-fn threshold_of(way: Way) -> i16
-    ensures { result ≡ threshold_of (choice_of way) }
-{
-    if way.second {
-        return way.threshold;
-    }
-    -32768
-}
-
-// What the hard reading of a column settles: a word that is returned unsearched, or nothing.
-#[derive(Drop)]
-pub enum HardReading {
-    Word(u64),
-    NoWord,
-}
-
-// The hard reading of a soft column, if list of two is on and it is a word of the level.
-#[tactic(auto, using(crate::proofs::ShortTwo::is_unsearched))]
-fn unsearched_word(soft: &[u8], checks: &[u64], way: Way) -> HardReading
+// The hard reading of a soft column, if list of two is on and it is a word of the level: it is returned unsearched.
+#[tactic(auto, using(crate::proofs::ShortTwo::is_unsearched, crate::proofs::ShortTwo::is_searched))]
+fn unsearched_word(soft: &[u8], hard: &HardTables, way: Way) -> Option<u64>
     requires soft_len { length soft.now ≡ 30 }
     requires by_index { (k : ℕ) → k < 30 → get_or soft.now k 0 < 8 }
-    requires by_index_2 { (i : ℕ) × (i < 4) × (way.second ≡ true → ChecksFor i checks.now) }
-    ensures { (i : ℕ) → i < 4 → (way.second ≡ true → ChecksFor i checks.now) → result ≡ unsearched_word (choice_of way) i soft.now }
+    requires by_index_2 { (i : ℕ) × (i < 4) × (is_some way.threshold ≡ true → ChecksFor i hard.now.checks) }
+    ensures { (i : ℕ) → i < 4 → (is_some way.threshold ≡ true → ChecksFor i hard.now.checks) → result ≡ unsearched_word (choice_of way) i soft.now }
 {
-    if !way.second {
-        return HardReading::NoWord;
+    if way.threshold.is_none() {
+        return None;
     }
-    let read = hard::checked_reading(soft, checks);
-    if read < 1073741824 {
-        return HardReading::Word(read);
-    }
-    HardReading::NoWord
+    let read = hard.checked_reading(soft);
+    if read < 1073741824 { Some(read) } else { None }
 }
 
-// The search of a soft column of the short page in a given way, by the tables that are lent; the arrays may hold anything.
-pub fn search_by(
-    sums: &mut [i16; 2002],
-    lens: &mut [u8; 2002],
-    bits: &mut [u64; 2002],
-    soft: &[u8],
-    left: &[u64],
-    right: &[u64],
-    values: &[i16; 16],
-    checks: &[u64],
-    agreeing: &[i16; 8],
-    way: Way,
-) -> SearchOutcome
+// The search of a soft column of the short page in a given way, by the tables that are lent; the stack may hold anything.
+// Without list of two the threshold is the lowest number of 16 bits, which no sum is below.
+pub fn search_by(stack: &mut Stack, trellis: &Trellis, hard: &HardTables, way: Way) -> Option<Found>
     requires limit_bound { way.limit ≤ 2000 }
-    requires searchable30 { Searchable30 soft.now left.now right.now values.now }
-    requires by_index { (i : ℕ) × (i < 4) × HardFor way.second i values.now checks.now agreeing.now }
-    requires room { Room sums.old lens.old bits.old }
-    ensures room_2 { Room sums.new lens.new bits.new }
-    ensures value { (s : Search) (i : ℕ) → i < 4 → TablesFor s i left.now right.now values.now
-        → HardFor way.second i values.now checks.now agreeing.now
-        → result ≡ code_outcome (searched_by (choice_of way) s short (level_values i) way.limit soft.now i) }
+    requires length { trellis.now.n ≡ 30 }
+    requires searchable30 { Searchable30 trellis.now.col.now trellis.now.left.now trellis.now.right.now trellis.now.values.now }
+    requires by_index { (i : ℕ) × (i < 4) × HardFor (is_some way.threshold) i trellis.now.values.now hard.now.checks hard.now.agreeing }
+    ensures { (s : Search) (i : ℕ) → i < 4 → TablesFor s i trellis.now.left.now trellis.now.right.now trellis.now.values.now
+        → HardFor (is_some way.threshold) i trellis.now.values.now hard.now.checks hard.now.agreeing
+        → result ≡ code_outcome (searched_by (choice_of way) s short (level_values i) way.limit trellis.now.col.now i) }
 {
-    match unsearched_word(soft, checks, way) {
-        HardReading::Word(word) => SearchOutcome::Found {
-            word: word,
+    match unsearched_word(trellis.col, hard, way) {
+        Some(word) => Some(Found {
+            word,
             count: 0,
-            low: hard::low_of_reading(soft, agreeing),
-        },
-        HardReading::NoWord => search_words(
-            sums,
-            lens,
-            bits,
-            30,
-            soft,
-            left,
-            right,
-            values,
-            threshold_of(way),
-            way.limit,
-        ),
+            low: hard.low_of_reading(trellis.col),
+        }),
+        None => search_words(stack, trellis, way.threshold.unwrap_or(i16::MIN), way.limit),
     }
 }

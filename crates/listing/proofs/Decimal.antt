@@ -2,12 +2,11 @@
 use mathlib.Core.Path.{◌≡◌, ap, ◌∙◌, subst}
 use mathlib.Core.List.{List, [], ◌∷◌, ◌++◌}
 use Prim.Native.Nat.{ℕ, zero, suc, ◌-◌, ◌*◌, ◌/◌, ◌%◌, ◌^◌, ◌<◌, ◌≤◌}
-use native.Mathlib.Nat.{pow-suc}
+use native.Mathlib.Nat.{pow-suc, pow-le-pow_right}
 use native.Mathlib.Omega.{arith}
 use borrow.Author.Tests.{lt-ltb, le-ltb}
 use Rattle.io.specs.Digits.{hex_digit_ascii, last_digits, IsDigitCount}
 use Rattle.listing.specs.Text.{decimal_in}
-use Rattle.listing.proofs.Digits.{at_most}
 
 pow_positive : (k : ℕ) → 1 ≤ 10 ^ k
 pow_positive zero = omega arith
@@ -18,7 +17,9 @@ pow_before k = ap (λ (j : ℕ). 10 ^ j) (omega arith)
 
 -- a number of 64 bits has at most 20
 pub at_most_20 : (k n : ℕ) → n < 2 ^ 64 → IsDigitCount 10 1 n k → k ≤ 20
-at_most_20 k n small few = at_most 10 1 20 k n (omega arith) (omega arith) (omega (arith, small)) few
+at_most_20 k n small few =
+    let more : 20 ≤ k - 1 → 10 ^ 20 ≤ 10 ^ (k - 1) = λ h. pow-le-pow_right {n = 10} (omega arith) {i = 20} {j = k - 1} h in
+    grind (arith, few, more, small)
 
 pub digits_are_decimal : (k f n : ℕ) → k ≤ f → IsDigitCount 10 1 n k → last_digits 10 k n ≡ decimal_in f n
 unfolding decimal_in

@@ -1,5 +1,4 @@
-pub mod Appended
 pub mod Decimal
-pub mod Digits
 pub mod Hex
+pub mod Lengths
 pub mod Lines

@@ -1,23 +1,25 @@
--- Where a line ends, as a loop finds it. Assumes nothing.
-use mathlib.Core.Path.{◌≡◌}
-use mathlib.Core.List.{List}
-use Prim.Native.Nat.{ℕ, ◌+◌, ◌<◌}
-use native.Mathlib.Numerals.{add-one}
-use native.Mathlib.Omega.{arith}
-use borrow.Author.Tests.{eq-eqb, ne_eqb}
-use lib.ListN.{length, get_or, drop}
-use lib.Seq.{drop-cons, drop-length}
+-- How long the first line of a text is, by the place of its newline. Assumes nothing.
+use Rattle.std.proofs.Common.{◌≡◌, ℕ, suc, List, [], ◌∷◌, ◌≤◌, ◌<◌, length, cond, refl, arith, nat_lt}
+use Rattle.std.proofs.lemmas.Grind.{common_steps}
+use Rattle.std.specs.Prelude.{◌==◌}
+use Rattle.std.specs.List.{position_or_len}
 use Rattle.listing.specs.Text.{line_length}
 
--- at another byte than a newline the line goes on
-pub line_more : (s : List ℕ) (i : ℕ) → i < length s → (get_or s i 0 ≡ 10 → ⊥) → i + line_length (drop i s) ≡ i + 1 + line_length (drop (i + 1) s)
-unfolding line_length
-line_more s i h other = rw (drop-cons s i 0 h, ne_eqb _ _ other, add-one) (omega arith)
+abbrev pub before_newline : List ℕ → ℕ
+before_newline text = position_or_len (λ b. b == 10) text
 
-pub line_here : (s : List ℕ) (i : ℕ) → i < length s → get_or s i 0 ≡ 10 → line_length (drop i s) ≡ 1
+pub line_by_newline : (text : List ℕ) → line_length text ≡ cond (nat_lt (before_newline text) (length text)) (suc (before_newline text)) (length text)
 unfolding line_length
-line_here s i h newline = rw (drop-cons s i 0 h, eq-eqb _ _ newline)
+line_by_newline [] = refl
+line_by_newline (b ∷ text) = grind (arith, common_steps, line_by_newline text)
 
-pub line_none : (s : List ℕ) (i : ℕ) → length s ≡ i → line_length (drop i s) ≡ 0
+-- a line stands within the text, and one of a text that is there is longer than nothing
+pub line_within : (text : List ℕ) → line_length text ≤ length text
 unfolding line_length
-line_none s i e = rw (← e, drop-length s)
+line_within [] = omega arith
+line_within (b ∷ text) = grind (arith, common_steps, line_within text)
+
+pub line_is_some : (text : List ℕ) → 0 < length text → 0 < line_length text
+unfolding line_length
+line_is_some [] h = h
+line_is_some (b ∷ text) h = grind (arith, common_steps)

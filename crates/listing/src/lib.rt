@@ -1,44 +1,191 @@
-// Lines of text in a buffer: decimal and hexadecimal numbers, the lines of a page's listing (01, "The station's interface"; 02, point 6) and of a census (02, point 14); and their writing.
+// Lines of text in fixed memory: decimal and hexadecimal numbers, the lines of a page's listing (01, "The station's interface"; 02, point 6) and of a census (02, point 14); and their writing.
 #![tactic(auto)]
 
-ghost use Rattle.std.specs.Prelude.{◌≡◌, ◌++◌, ◌+◌, ◌≤◌, ◌<◌, length, drop, OnOk, OnErr};
+ghost use Rattle.std.specs.Prelude.{◌≡◌, ◌++◌, ◌+◌, ◌≤◌, ◌<◌, ℕ, List, [], length, take, OnOk, OnErr};
 ghost use Rattle.std.specs.Io.KnownBytes.{Appends};
 ghost use Rattle.io.specs.Digits.{hex_digit_ascii};
-ghost use Rattle.listing.specs.Text.{decimal, hex_of, hex_mark, line_length, Appended, AppendsBeginning};
+ghost use Rattle.listing.specs.Text.{decimal, hex_of, hex_mark, line_length, AppendsBeginning};
 ghost use Rattle.listing.specs.Lines.{ok_line, columns_text, level_line, level_lines, data_line, refused_line, census_line};
 
 use std::io::{Error, ErrorKind, Write};
+use std::marker::Model;
 
-// ---- text behind the first `at` bytes of a buffer; each gives the place where it ends
+// Text of at most `N` bytes. Clauses see the bytes.
+#[derive(Drop)]
+pub struct Text<const N: usize> {
+    bytes: [u8; N],
+    len: usize,
+}
 
-fn append(piece: &[u8], out: &mut [u8], at: usize) -> usize
-    requires { at + length piece.now ≤ length out.old }
-    ensures { Appended at piece.now (length piece.now) out.old result out.new }
-{
-    let mut i = 0;
-    while i < piece.len() {
-        out[at + i] = piece[i];
-        i += 1;
+impl<const N: usize> Model for Text<N> {
+    ghost Value = { List ℕ };
+
+    ghost view = { λ t. take t.len t.bytes };
+
+    ghost invariant = { λ t. t.len ≤ N };
+}
+
+impl<const N: usize> Text<N> {
+    pub fn new() -> Self
+        ensures { result ≡ [] }
+    {
+        Text {
+            bytes: [0; N],
+            len: 0,
+        }
     }
-    at + i
-}
 
-fn append_decimal(n: u64, out: &mut [u8], at: usize) -> usize
-    requires { at + 20 ≤ length out.old }
-    ensures { Appended at (decimal n) 20 out.old result out.new }
-{
-    let mut digits = [0u8; 20];
-    let k = io::decimal(n, &mut digits);
-    append(&digits[..k], out, at)
-}
+    pub fn as_bytes(&self) -> &[u8]
+        ensures { result.now ≡ self.now }
+    {
+        &self.bytes[..self.len]
+    }
 
-// Words, and a decimal number behind them.
-fn append_number(words: &[u8], n: u64, out: &mut [u8], at: usize) -> usize
-    requires { at + length words.now + 20 ≤ length out.old }
-    ensures { Appended at (words.now ++ decimal n) (length words.now + 20) out.old result out.new }
-{
-    let number = append(words, out, at);
-    append_decimal(n, out, number)
+    fn append(&mut self, piece: &[u8])
+        requires { length self.old + length piece.now ≤ N }
+        ensures { self.new ≡ self.old ++ piece.now }
+    {
+        let end = self.len + piece.len();
+        let bytes = &mut self.bytes[..];
+        bytes[self.len..end].copy_from_slice(piece);
+        self.len = end;
+    }
+
+    // Not by `write!`, whose contract does not say that it succeeds where the text fits.
+    fn append_decimal(&mut self, n: u64)
+        requires { length self.old + length (decimal n) ≤ N }
+        ensures { self.new ≡ self.old ++ decimal n }
+    {
+        let mut digits = [0u8; 20];
+        let k = io::decimal(n, &mut digits);
+        self.append(&digits[..k]);
+    }
+
+    // Words, and a decimal number behind them.
+    fn append_number(&mut self, words: &[u8], n: u64)
+        requires { length self.old + length (words.now ++ decimal n) ≤ N }
+        ensures { self.new ≡ self.old ++ words.now ++ decimal n }
+    {
+        self.append(words);
+        self.append_decimal(n);
+    }
+
+    fn append_hex(&mut self, bytes: &[u8])
+        requires { length self.old + length (hex_of bytes.now) ≤ N }
+        ensures { self.new ≡ self.old ++ hex_of bytes.now }
+    {
+        for b in bytes {
+            self.append(&[hex_digit(*b / 16), hex_digit(*b % 16)]);
+        }
+    }
+
+    fn append_mark(&mut self, mark: u64)
+        requires { length self.old + length (hex_mark mark) ≤ N }
+        ensures { self.new ≡ self.old ++ hex_mark mark }
+    {
+        let mut digits = [0u8; 16];
+        let k = io::hex(mark, 16, &mut digits);
+        self.append(&digits[..k]);
+    }
+
+    // A total, and behind it the mark of the columns that it counts.
+    #[tactic(auto, unfolding(crate::specs::Text::ascii, crate::specs::Lines::columns_text))]
+    fn append_columns(&mut self, total: u8, mark: u64)
+        requires { length self.old + length (columns_text total mark) ≤ N }
+        ensures { self.new ≡ self.old ++ columns_text total mark }
+    {
+        self.append_decimal(u64::from(total));
+        self.append(b" ");
+        self.append_mark(mark);
+    }
+
+    // ---- the lines
+
+    #[tactic(auto, unfolding(crate::specs::Text::ascii, crate::specs::Lines::ok_line))]
+    pub fn append_ok(&mut self, steps: u64)
+        requires { length self.old + length (ok_line steps) ≤ N }
+        ensures { self.new ≡ self.old ++ ok_line steps }
+    {
+        self.append_number(b"page ok steps ", steps);
+        self.append(b"\n");
+    }
+
+    #[tactic(auto, unfolding(crate::specs::Text::ascii, crate::specs::Lines::level_line))]
+    fn append_level(
+        &mut self,
+        level: u64,
+        changed: u8,
+        changed_mark: u64,
+        erased: u8,
+        erased_mark: u64,
+    )
+        requires { length self.old + length (level_line level changed changed_mark erased erased_mark) ≤ N }
+        ensures { self.new ≡ self.old ++ level_line level changed changed_mark erased erased_mark }
+    {
+        self.append_number(b"level ", level);
+        self.append(b" changed ");
+        self.append_columns(changed, changed_mark);
+        self.append(b" erased ");
+        self.append_columns(erased, erased_mark);
+        self.append(b"\n");
+    }
+
+    // The lines of all levels. The totals and marks are four arrays, as a page's report has them.
+    #[tactic(auto, using(crate::proofs::Lengths::one_of_four), unfolding(crate::specs::Lines::level_lines))]
+    pub fn append_levels(
+        &mut self,
+        changed: [u8; 4],
+        changed_marks: [u64; 4],
+        erased: [u8; 4],
+        erased_marks: [u64; 4],
+    )
+        requires { length self.old + length (level_lines 4 changed changed_marks erased erased_marks) ≤ N }
+        ensures { self.new ≡ self.old ++ level_lines 4 changed changed_marks erased erased_marks }
+    {
+        for level in 0..4 {
+            self.append_level(
+                level as u64,
+                changed[level],
+                changed_marks[level],
+                erased[level],
+                erased_marks[level],
+            );
+        }
+    }
+
+    #[tactic(auto, unfolding(crate::specs::Text::ascii, crate::specs::Lines::data_line))]
+    pub fn append_data(&mut self, bytes: &[u8])
+        requires { length self.old + length (data_line bytes.now) ≤ N }
+        ensures { self.new ≡ self.old ++ data_line bytes.now }
+    {
+        self.append(b"data ");
+        self.append_hex(bytes);
+        self.append(b"\n");
+    }
+
+    #[tactic(auto, unfolding(crate::specs::Text::ascii, crate::specs::Lines::refused_line))]
+    pub fn append_refused(&mut self, number: u64, place: u64)
+        requires { length self.old + length (refused_line number place) ≤ N }
+        ensures { self.new ≡ self.old ++ refused_line number place }
+    {
+        self.append_number(b"page refused ", number);
+        self.append_number(b" place ", place);
+        self.append(b"\n");
+    }
+
+    // The line of a level and a number of ones: how many patterns end in the zero word, in another word, and spent.
+    #[tactic(auto, unfolding(crate::specs::Text::ascii, crate::specs::Lines::census_line))]
+    pub fn append_census(&mut self, level: u64, ones: u64, zero: u64, other: u64, spent: u64)
+        requires { length self.old + length (census_line level ones zero other spent) ≤ N }
+        ensures { self.new ≡ self.old ++ census_line level ones zero other spent }
+    {
+        self.append_number(b"level ", level);
+        self.append_number(b" ones ", ones);
+        self.append_number(b" zero ", zero);
+        self.append_number(b" other ", other);
+        self.append_number(b" spent ", spent);
+        self.append(b"\n");
+    }
 }
 
 // The digit of a number below 16.
@@ -46,151 +193,7 @@ fn hex_digit(d: u8) -> u8
     requires { d < 16 }
     ensures { result ≡ hex_digit_ascii d }
 {
-    if d < 10 { 48 + d } else { 87 + d }
-}
-
-fn append_hex(bytes: &[u8], out: &mut [u8], at: usize) -> usize
-    requires { (length bytes.now ≡ 150) × (at + 300 ≤ length out.old) }
-    ensures { Appended at (hex_of bytes.now) 300 out.old result out.new }
-{
-    let mut i = 0;
-    while i < 150 {
-        let b = bytes[i];
-        let high = at + 2 * i;
-        out[high] = hex_digit(b / 16);
-        out[high + 1] = hex_digit(b % 16);
-        i += 1;
-    }
-    at + 300
-}
-
-fn append_mark(mark: u64, out: &mut [u8], at: usize) -> usize
-    requires { at + 16 ≤ length out.old }
-    ensures { Appended at (hex_mark mark) 16 out.old result out.new }
-{
-    let mut digits = [0u8; 16];
-    let k = io::hex(mark, 16, &mut digits);
-    append(&digits[..k], out, at)
-}
-
-// A total, and behind it the mark of the columns that it counts.
-fn append_columns(total: u8, mark: u64, out: &mut [u8], at: usize) -> usize
-    requires { at + 37 ≤ length out.old }
-    ensures { Appended at (columns_text total mark) 37 out.old result out.new }
-{
-    let counted = append_decimal(total as u64, out, at);
-    let digits = append(b" ", out, counted);
-    append_mark(mark, out, digits)
-}
-
-// ---- the lines
-
-pub fn append_ok(steps: u64, out: &mut [u8], at: usize) -> usize
-    requires { at + 35 ≤ length out.old }
-    ensures { Appended at (ok_line steps) 35 out.old result out.new }
-{
-    let end = append_number(b"page ok steps ", steps, out, at);
-    append(b"\n", out, end)
-}
-
-fn append_level(
-    level: u64,
-    changed: u8,
-    changed_mark: u64,
-    erased: u8,
-    erased_mark: u64,
-    out: &mut [u8],
-    at: usize,
-) -> usize
-    requires { at + 118 ≤ length out.old }
-    ensures { Appended at (level_line level changed changed_mark erased erased_mark) 118 out.old result out.new }
-{
-    let numbered = append_number(b"level ", level, out, at);
-    let first = append(b" changed ", out, numbered);
-    let counted = append_columns(changed, changed_mark, out, first);
-    let second = append(b" erased ", out, counted);
-    let end = append_columns(erased, erased_mark, out, second);
-    append(b"\n", out, end)
-}
-
-// The lines of all levels.
-pub fn append_levels(
-    changed: [u8; 4],
-    changed_marks: [u64; 4],
-    erased: [u8; 4],
-    erased_marks: [u64; 4],
-    out: &mut [u8],
-    at: usize,
-) -> usize
-    requires { at + 472 ≤ length out.old }
-    ensures { Appended at (level_lines 4 changed changed_marks erased erased_marks) 472 out.old result out.new }
-{
-    let mut end = at;
-    let mut level: usize = 0;
-    while level < 4 {
-        let c = changed[level];
-        let cm = changed_marks[level];
-        let e = erased[level];
-        let em = erased_marks[level];
-        end = append_level(level as u64, c, cm, e, em, out, end);
-        level += 1;
-    }
-    end
-}
-
-pub fn append_data(bytes: &[u8], out: &mut [u8], at: usize) -> usize
-    requires { (length bytes.now ≡ 150) × (at + 306 ≤ length out.old) }
-    ensures { Appended at (data_line bytes.now) 306 out.old result out.new }
-{
-    let digits = append(b"data ", out, at);
-    let end = append_hex(bytes, out, digits);
-    append(b"\n", out, end)
-}
-
-pub fn append_refused(number: u64, place: u64, out: &mut [u8], at: usize) -> usize
-    requires { at + 61 ≤ length out.old }
-    ensures { Appended at (refused_line number place) 61 out.old result out.new }
-{
-    let numbered = append_number(b"page refused ", number, out, at);
-    let end = append_number(b" place ", place, out, numbered);
-    append(b"\n", out, end)
-}
-
-// The line of a level and a number of ones: how many patterns end in the zero word, in another word, and spent.
-pub fn append_census(
-    level: u64,
-    ones: u64,
-    zero: u64,
-    other: u64,
-    spent: u64,
-    out: &mut [u8],
-    at: usize,
-) -> usize
-    requires { at + 133 ≤ length out.old }
-    ensures { Appended at (census_line level ones zero other spent) 133 out.old result out.new }
-{
-    let first = append_number(b"level ", level, out, at);
-    let second = append_number(b" ones ", ones, out, first);
-    let third = append_number(b" zero ", zero, out, second);
-    let fourth = append_number(b" other ", other, out, third);
-    let end = append_number(b" spent ", spent, out, fourth);
-    append(b"\n", out, end)
-}
-
-// Where the line that begins at `from` ends, behind its newline.
-fn line_end(text: &[u8], from: usize) -> usize
-    requires { from < length text.now }
-    ensures value { result ≡ from + line_length (drop from text.now) }
-    ensures lower_bound { (from < result) × (result ≤ length text.now) }
-{
-    let mut i = from;
-    while i < text.len() {
-        if text[i] == 10 {
-            return i + 1;
-        }
-        i += 1;
-    }
-    i
+    if d < 10 { b'0' + d } else { b'a' + (d - 10) }
 }
 
 // Writes a line.
@@ -198,6 +201,7 @@ fn write_line<W: Write>(line: &[u8], out: &mut W) -> std::io::Result<()>
     ensures ok { OnOk result (Appends (W.contents out.old) (W.contents out.new) line.now) }
     ensures err { OnErr result (AppendsBeginning (W.contents out.old) (W.contents out.new) line.now) }
 {
+    // No `write_all`: after an error it promises nothing of what was written.
     let mut done = 0;
     while done < line.len() {
         let n = out.write(&line[done..])?;
@@ -209,16 +213,27 @@ fn write_line<W: Write>(line: &[u8], out: &mut W) -> std::io::Result<()>
     Ok(())
 }
 
+// How long the first line of a text is, its newline included.
+fn line_length(text: &[u8]) -> usize
+    ensures { result ≡ line_length text.now }
+{
+    match text.iter().position(|b| *b == b'\n') {
+        Some(newline) => newline + 1,
+        None => text.len(),
+    }
+}
+
 // Writes a text, each line by a write of its own; where one fails, a beginning of the text was written.
 pub fn write_lines<W: Write>(text: &[u8], out: &mut W) -> std::io::Result<()>
     ensures ok { OnOk result (Appends (W.contents out.old) (W.contents out.new) text.now) }
     ensures err { OnErr result (AppendsBeginning (W.contents out.old) (W.contents out.new) text.now) }
 {
-    let mut start = 0;
-    while start < text.len() {
-        let end = line_end(text, start);
-        write_line(&text[start..end], out)?;
-        start = end;
+    // No `for` over `split_inclusive`: in a function with a type parameter the check refuses the part of the proof that it writes itself.
+    let mut rest = text;
+    while !rest.is_empty() {
+        let (line, after) = rest.split_at(line_length(rest));
+        write_line(line, out)?;
+        rest = after;
     }
     Ok(())
 }

@@ -1,19 +1,12 @@
 // The erased columns: how many, and the modified syndromes, from which their locators are taken out.
-ghost use Rattle.std.specs.Prelude.{◌≡◌, ℕ, suc, ◌≤◌, ◌<◌, eqb, length};
+ghost use Rattle.std.specs.Prelude.{◌≡◌, ℕ, suc, ◌≤◌, ◌<◌, length};
 ghost use Rattle.poly.specs.Polynomial.{add};
 ghost use Rattle.field.specs.Element.{mul};
-ghost use Rattle.reedsolomon.specs.Words.{indicator, count};
+ghost use Rattle.reedsolomon.specs.Words.{count};
 ghost use Rattle.reedsolomon.specs.Row.{symbol, Symbols, marked};
 ghost use Rattle.reedsolomon.specs.Steps.{Written, HasModifiedSyndromes};
 
 use syndromes::powers;
-
-// 1 for a mark, else 0
-fn one(mark: u8) -> u8
-    ensures { result ≡ indicator (eqb mark 1) }
-{
-    if mark == 1 { 1 } else { 0 }
-}
 
 // How many columns are marked.
 pub fn number(marks: &[u8]) -> usize
@@ -22,7 +15,7 @@ pub fn number(marks: &[u8]) -> usize
 {
     let mut n: u8 = 0;
     for j in 0..63 {
-        n += one(marks[j]);
+        n += u8::from(marks[j] == 1);
     }
     n as usize
 }

@@ -41,8 +41,7 @@ fn attempt(m: &[u8], n: usize, slots: &[u8], qs: &[u8], b: usize) -> Tried
     ensures { StoppedAt 6 67 n m.now qs.now result.row b result.stop }
 {
     let mut row = begun(m, b);
-    let mut i = 0;
-    while i < n {
+    for i in 0..n {
         let v = row[i];
         if v != 0 {
             let q = qs[i];
@@ -52,7 +51,6 @@ fn attempt(m: &[u8], n: usize, slots: &[u8], qs: &[u8], b: usize) -> Tried
             let t = field::product(v, q);
             combine(&mut row, slots, i, t);
         }
-        i += 1;
     }
     Tried { row, stop: n }
 }
@@ -71,20 +69,14 @@ pub fn locator_polynomial(m: &[u8], n: usize) -> Located
 {
     let mut slots = [0u8; 512];
     let mut qs = [0u8; 16];
-    let mut b = 0;
-    while b < n {
-        let t = attempt(m, n, &slots, &qs, b);
-        let stop = t.stop;
-        let row = t.row;
+    for b in 0..n {
+        let Tried { row, stop } = attempt(m, n, &slots, &qs, b);
         if stop == n {
             return Located { row, degree: b };
         }
         lists::put(&row, 32, stop * 32, &mut slots);
-        let off = row[stop];
-        qs[stop] = field::inverse(off);
-        b += 1;
+        qs[stop] = field::inverse(row[stop]);
     }
-    let t = attempt(m, n, &slots, &qs, b);
-    let row = t.row;
-    Located { row, degree: b }
+    let Tried { row, .. } = attempt(m, n, &slots, &qs, n);
+    Located { row, degree: n }
 }

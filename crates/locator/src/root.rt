@@ -23,10 +23,8 @@ fn values(row: &[u8], d: usize, xs: [u8; 16]) -> [u8; 16]
     ensures { Entries 16 (λ (i : ℕ). row_value 6 67 row.now d (symbol xs i)) result }
 {
     let mut v = [0u8; 16];
-    let mut k = 0;
-    while k <= d {
+    for k in 0..d + 1 {
         raised(&mut v, &xs, row[16 + (d - k)]);
-        k += 1;
     }
     v
 }
@@ -38,12 +36,10 @@ pub fn all_values(row: &[u8], d: usize) -> [u8; 64]
 {
     let all = powers::locators();
     let mut r = [0u8; 64];
-    let mut b = 0;
-    while b < 4 {
+    for b in 0..4 {
         let xs = lists::block(&all, b);
         let v = values(row, d, xs);
         lists::put(&v, 16, b * 16, &mut r);
-        b += 1;
     }
     r
 }
@@ -52,10 +48,7 @@ pub fn all_values(row: &[u8], d: usize) -> [u8; 64]
 fn flag(mark: u8, value: u8) -> u8
     ensures { ((mark ≡ 1) ⊎ (value ≡ 0) → result ≡ 1) × (result ≡ 1 → (mark ≡ 1) ⊎ (value ≡ 0)) }
 {
-    if mark == 1 {
-        return 1;
-    }
-    if value == 0 { 1 } else { 0 }
+    u8::from(mark == 1 || value == 0)
 }
 
 // The marks of the error locations: the marked columns, and those where the value is 0.
@@ -70,7 +63,7 @@ pub fn locations(marks: &[u8], values: &[u8]) -> [u8; 64]
     flags
 }
 
-// Locators, how many there are, and 0 behind them.
+// Locators, how many there are, and 0 behind them: they are read in blocks of 16, of which a slice of k would cut off the last.
 #[derive(Drop)]
 pub struct Listed {
     pub xs: [u8; 64],

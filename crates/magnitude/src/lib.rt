@@ -76,12 +76,10 @@ fn magnitudes(g: &[u8], s: &[u8], k: usize, xs: [u8; 16]) -> [u8; 16]
     let mut q = [0u8; 16];
     let mut d = [0u8; 16];
     let mut a = [0u8; 16];
-    let mut j = 0;
-    while j < k {
+    for j in 0..k {
         root::raised(&mut q, &xs, g[31 - k + j]);
         fold(&mut d, &xs, &q);
         gather(&mut a, &q, s[k - (j + 1)]);
-        j += 1;
     }
     let e = products(d, xs);
     let f = inverses(e);
@@ -94,12 +92,10 @@ pub fn all_magnitudes(g: &[u8], s: &[u8], k: usize, xs: &[u8]) -> [u8; 64]
     ensures { Entries k (λ (i : ℕ). magnitude add (mul 6 67) 0 (inverse 6 67) k (symbol s.now) (λ (j : ℕ). symbol g.now (31 - k + j)) (symbol xs.now i)) result × Symbols 6 result }
 {
     let mut ys = [0u8; 64];
-    let mut b = 0;
-    while b * 16 < k {
+    for b in 0..k.div_ceil(16) {
         let x = lists::block(xs, b);
         let y = magnitudes(g, s, k, x);
         lists::put(&y, 16, b * 16, &mut ys);
-        b += 1;
     }
     ys
 }
@@ -113,7 +109,7 @@ pub fn added(w: [u8; 64], flags: &[u8], ys: &[u8]) -> [u8; 64]
     let mut k: usize = 0;
     for j in 0..63 {
         if flags[j] == 1 {
-            v[j] = v[j] ^ ys[k];
+            v[j] ^= ys[k];
             k += 1;
         }
     }

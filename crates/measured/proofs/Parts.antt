@@ -1,16 +1,10 @@
 -- The columns of a buffer of soft values: a part as a column to search, and the answers so far. Assumes nothing.
-use mathlib.Core.List.{List}
-use mathlib.Core.Path.{◌≡◌, refl, sym, ap, ap₂, ◌∙◌, subst}
-use Prim.Native.Nat.{ℕ, suc, ◌+◌, ◌-◌, ◌*◌, ◌/◌, ◌%◌, ◌≤◌, ◌<◌}
-use native.Mathlib.Omega.{arith}
+use Rattle.std.proofs.Common.{◌≡◌, ℕ, ◌+◌, ◌-◌, ◌*◌, ◌≤◌, ◌<◌, List, length, take, drop, get_or, refl, sym, ap, ap₂, subst, arith, add-one}
+use mathlib.Core.Path.{◌∙◌}
 use lib.Bits.{bit_xor}
-use lib.ListN.{length, take, drop, get_or, length-take, length-drop}
+use lib.ListN.{length-take, length-drop}
 use lib.Seq.{get_or-drop, get_or-take}
-use Rattle.trellis.specs.Demand.{Search}
-use Rattle.trellis.specs.TwoWords.{Choice}
-use Rattle.list_of_two.specs.declared.Way.{Way}
-use Rattle.list_of_two.specs.Ways.{choice_of}
-use Rattle.measured.specs.Folds.{folded_columns, searched_number}
+use Rattle.measured.specs.Folds.{folded_columns}
 
 module _ (soft : List ℕ) (a : ℕ) (fits : a + 30 ≤ length soft) where
   pub part_long : length (take (a + 30 - a) (drop a soft)) ≡ 30
@@ -22,34 +16,13 @@ module _ (soft : List ℕ) (a : ℕ) (fits : a + 30 ≤ length soft) where
       at : get_or (take (a + 30 - a) (drop a soft)) k 0 ≡ get_or soft (a + k) 0
       at = let within : k < a + 30 - a = omega arith in rw (get_or-take, get_or-drop)
 
--- the columns before a, whole columns, are searched
-pub record Folded (value : List ℕ → ℕ) (soft : List ℕ) (a fold : ℕ) : Type 0 where
-  pub fold_so : fold ≡ folded_columns value soft (a / 30)
-
 module _ (value : List ℕ → ℕ) (soft : List ℕ) where
-  pub none_folded : Folded value soft 0 0
+  pub none_folded : 0 ≡ folded_columns value soft 0
   unfolding folded_columns
-  none_folded = record { fold_so = refl }
+  none_folded = refl
 
-  pub one_more_folded : (a fold r : ℕ) → a % 30 ≡ 0 → Folded value soft a fold → r ≡ value (take (a + 30 - a) (drop a soft)) → Folded value soft (a + 30) (bit_xor fold r)
+  pub one_more_folded : (j fold r : ℕ) → fold ≡ folded_columns value soft j → r ≡ value (take (j * 30 + 30 - j * 30) (drop (j * 30) soft)) → bit_xor fold r ≡ folded_columns value soft (j + 1)
   unfolding folded_columns
-  one_more_folded a fold r whole f e =
-      let column : take (a + 30 - a) (drop a soft) ≡ take 30 (drop (a / 30 * 30) soft) = ap₂ (λ (k j : ℕ). take k (drop j soft)) length_is start_is in
-      record { fold_so = ap₂ bit_xor f.fold_so (e ∙ ap value column) ∙ ap (folded_columns value soft) next }
-    where
-      length_is : a + 30 - a ≡ 30
-      length_is = omega arith
-
-      start_is : a ≡ a / 30 * 30
-      start_is = omega arith
-
-      next : suc (a / 30) ≡ (a + 30) / 30
-      next = omega arith
-
-  pub all_folded : (a fold : ℕ) → a % 30 ≡ 0 → a ≤ length soft → length soft - a < 30 → Folded value soft a fold → fold ≡ folded_columns value soft (length soft / 30)
-  all_folded a fold whole within last f = let same : a / 30 ≡ length soft / 30 = omega arith in f.fold_so ∙ ap (folded_columns value soft) same
-
--- the searches in a way are those of the choice and limit that the way names
-pub folded_by_its_way : (way : Way) (choice : Choice) (limit : ℕ) → choice_of way ≡ choice → way.limit ≡ limit → (s : Search) (soft : List ℕ) (i : ℕ)
-    → folded_columns (searched_number (choice_of way) s i way.limit) soft (length soft / 30) ≡ folded_columns (searched_number choice s i limit) soft (length soft / 30)
-folded_by_its_way way choice limit same within s soft i = ap₂ (λ (x : Choice) (l : ℕ). folded_columns (searched_number x s i l) soft (length soft / 30)) same within
+  one_more_folded j fold r so e =
+      let long : j * 30 + 30 - j * 30 ≡ 30 = omega arith in
+      ap₂ bit_xor so (e ∙ ap (λ (k : ℕ). value (take k (drop (j * 30) soft))) long) ∙ ap (folded_columns value soft) (sym (add-one j))

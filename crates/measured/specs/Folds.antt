@@ -1,5 +1,5 @@
 -- For the code's contracts: the answers of a buffer's columns as one number, which bench/run compares. Assumes nothing.
-use Rattle.std.specs.Prelude.{Bool, not, cond, List, ℕ, zero, suc, ◌*◌, ◌/◌, ◌%◌, ◌^◌, eqb, ltb, leb, length, take, drop}
+use Rattle.std.specs.Prelude.{Bool, not, cond, List, Option, None, Some, ℕ, zero, suc, ◌*◌, ◌/◌, ◌%◌, ◌^◌, eqb, ltb, leb, length, take, drop}
 use Rattle.std.specs.Int.Bits.{bit_xor}
 use Rattle.column.specs.Shape.{short}
 use Rattle.trellis.specs.Values.{level_values}
@@ -8,24 +8,23 @@ use Rattle.trellis.specs.Bounded.{searched_within}
 use Rattle.trellis.specs.TwoWords.{Choice, threshold_allowed, searched_by}
 use Rattle.packing.specs.Packing.{sixteen_bits}
 use Rattle.search.specs.Outcomes.{code_outcome, search_of}
-use Rattle.search.specs.declared.SearchOutcome.{SearchOutcome}
-use Rattle.search.specs.declared.SearchOutcome.TheVariants.{Found, Spent}
+use Rattle.search.specs.declared.Found.{Found}
 use Rattle.chip.specs.Outcomes as chip
 use Rattle.chip.specs.declared.ChipOutcome.{ChipOutcome}
 use Rattle.questions.specs.Questions.{ask, first_above}
 
-abbrev pub folded : SearchOutcome → ℕ
-folded (Found w c z) = bit_xor (bit_xor (w * 2 ^ 11 % 2 ^ 64) c) (sixteen_bits z * 2 ^ 48 % 2 ^ 64)
-folded Spent = 0
+abbrev pub folded : Option Found → ℕ
+folded (Some f) = bit_xor (bit_xor (f.word * 2 ^ 11 % 2 ^ 64) f.count) (sixteen_bits f.low * 2 ^ 48 % 2 ^ 64)
+folded None = 0
 
 -- a flag as a number
 abbrev pub bit_of : Bool → ℕ
 bit_of b = cond b 1 0
 
 -- an outcome with 64 places: its word's number with the flag at bit 47; without a word the paths taken above the flag, and bit 46
-abbrev pub folded_within : SearchOutcome → ℕ → Bool → ℕ
-folded_within (Found w c z) taken pushed = bit_xor (folded (Found w c z)) (bit_of pushed * 2 ^ 47 % 2 ^ 64)
-folded_within Spent taken pushed = bit_xor (bit_xor (taken * 2 ^ 1 % 2 ^ 64) (bit_of pushed)) (2 ^ 46)
+abbrev pub folded_within : Option Found → ℕ → Bool → ℕ
+folded_within (Some f) taken pushed = bit_xor (folded (Some f)) (bit_of pushed * 2 ^ 47 % 2 ^ 64)
+folded_within None taken pushed = bit_xor (bit_xor (taken * 2 ^ 1 % 2 ^ 64) (bit_of pushed)) (2 ^ 46)
 
 abbrev pub chip_folded : ChipOutcome → ℕ
 chip_folded e = folded_within e.found e.count e.pushed

@@ -6,6 +6,7 @@ ghost use Rattle.std.specs.Prelude.{◌≡◌, ◌+◌, ◌≤◌, ◌<◌, leng
 ghost use Rattle.reedsolomon.specs.Row.{Symbols, is_codeword, outer_answer, encoded_row, RowDecoded};
 ghost use Rattle.reedsolomon.specs.ShortRows.{short_roots, RowRoots};
 
+use correction::Row;
 use locator::erasure;
 use syndromes::{encoder, lists, syndrome};
 
@@ -58,13 +59,11 @@ pub fn decode(symbols: &[u8], marks: &[u8], t: usize, out: &mut [u8]) -> bool
         lists::put(&w, 63, 0, out);
         return true;
     }
-    let f = correction::corrected(w, marks, s, t, n);
-    let v = f.symbols;
-    let c = f.syndromes;
-    if lists::all_zero(&c, t) {
-        let e = correction::wrong(&w, &v, marks);
+    let Row { symbols, syndromes } = correction::corrected(w, marks, s, t, n);
+    if lists::all_zero(&syndromes, t) {
+        let e = correction::wrong(&w, &symbols, marks);
         if 2 * e + n <= t {
-            lists::put(&v, 63, 0, out);
+            lists::put(&symbols, 63, 0, out);
             return true;
         }
     }

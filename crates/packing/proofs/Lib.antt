@@ -1,3 +1,4 @@
+pub mod Groups
 pub mod Masked
 pub mod Put
 pub mod Signed

@@ -1,8 +1,5 @@
 -- 01: "Rows and page", bytes, symbols and columns by digits: a run of them is one number, its first entry the highest digit; signed numbers in 16 bits. Assumes nothing.
 use Rattle.std.specs.Prelude.{List, [], ◌∷◌, cond, ℕ, suc, ◌+◌, ◌-◌, ◌*◌, ◌/◌, ◌%◌, ◌^◌, ltb, ℤ, pos, negsuc}
-use Rattle.packing.specs.declared.Symbols.{Symbols}
-use Rattle.packing.specs.declared.Bytes.{Bytes}
-use Rattle.packing.specs.declared.ColumnBytes.{ColumnBytes}
 
 -- the number of a run of digits in a base, from what stands before it
 unfoldable pub joined : ℕ → ℕ → List ℕ → ℕ
@@ -14,20 +11,19 @@ abbrev pub digit : ℕ → ℕ → ℕ → ℕ
 digit base k x = x / base ^ k % base
 
 -- 01: "three bytes to four symbols, top bits first"
-abbrev pub symbols_of : ℕ → ℕ → ℕ → Symbols
-symbols_of b0 b1 b2 =
-    let x : ℕ = joined 256 0 (b0 ∷ b1 ∷ b2 ∷ []) in
-    record { s0 = digit 64 3 x; s1 = digit 64 2 x; s2 = digit 64 1 x; s3 = digit 64 0 x }
+abbrev pub symbols_of : List ℕ → List ℕ
+symbols_of bytes =
+    let x : ℕ = joined 256 0 bytes in
+    digit 64 3 x ∷ digit 64 2 x ∷ digit 64 1 x ∷ digit 64 0 x ∷ []
 
-abbrev pub bytes_of : ℕ → ℕ → ℕ → ℕ → Bytes
-bytes_of s0 s1 s2 s3 =
-    let x : ℕ = joined 64 0 (s0 ∷ s1 ∷ s2 ∷ s3 ∷ []) in
-    record { b0 = digit 256 2 x; b1 = digit 256 1 x; b2 = digit 256 0 x }
+abbrev pub bytes_of : List ℕ → List ℕ
+bytes_of symbols =
+    let x : ℕ = joined 64 0 symbols in
+    digit 256 2 x ∷ digit 256 1 x ∷ digit 256 0 x ∷ []
 
 -- 01: "four a column: 30 bits from the top, two zeros"
-abbrev pub column_bytes : ℕ → ColumnBytes
-column_bytes column =
-    record { b0 = digit 256 3 (column * 4); b1 = digit 256 2 (column * 4); b2 = digit 256 1 (column * 4); b3 = digit 256 0 (column * 4) }
+abbrev pub column_bytes : ℕ → List ℕ
+column_bytes column = digit 256 3 (column * 4) ∷ digit 256 2 (column * 4) ∷ digit 256 1 (column * 4) ∷ digit 256 0 (column * 4) ∷ []
 
 -- two's complement: a signed number as 16 bits, and the number that 16 bits are
 abbrev pub sixteen_bits : ℤ → ℕ

@@ -1,4 +1,5 @@
 -- A page's outcome and symbols from what its levels left, and its data from its symbols. Assumes nothing.
+use mathlib.Core.Bool.{true, false, true≢false}
 use mathlib.Core.List.{List, map}
 use mathlib.Core.Path.{◌≡◌, refl, sym, ap, ap₂, ◌∙◌, subst, subst⁻¹}
 use Prim.Native.Nat.{ℕ}
@@ -17,10 +18,12 @@ use Rattle.concatenated.specs.Marks.{changed_marks, erased_marks}
 use Rattle.concatenated.specs.Arrays.{SoftColumns, Rows}
 use Rattle.concatenated.specs.OuterCode.{short_outer, short_encoder, ShortCodeword}
 use Rattle.levels.specs.Levels.{Ends, ColumnsDone}
-use Rattle.page.specs.Outcomes.{changed_totals, erased_totals, refused_page, outcome_of, data_buffer, filled, symbol_buffer}
-use Rattle.levels.specs.declared.ColumnsOutcome.{ColumnsOutcome}
-use Rattle.levels.specs.declared.ColumnsOutcome.TheVariants.{Answered, Refused}
-use Rattle.page.specs.declared.PageOutcome.{PageOutcome}
+use Rattle.page.specs.Outcomes.{PageOutcome, changed_totals, erased_totals, outcome_of, data_buffer, filled, symbol_buffer}
+use Rattle.std.specs.Prelude.{Result, Ok, Err, is_ok}
+use Rattle.questions.specs.declared.refusal.Question.TheVariants.{Reach}
+use Rattle.questions.specs.declared.refusal.Refusal.{Refusal}
+use Rattle.readings.specs.declared.Totals.{Totals}
+use Rattle.levels.specs.declared.Levels.{Levels}
 use Rattle.concatenated.proofs.Digits.{below_is_word}
 use Rattle.concatenated.proofs.RowData.{rows_data_length, rows_data_in_range}
 use Rattle.concatenated.proofs.Symbols.{row_in_is_a_word}
@@ -36,29 +39,32 @@ soft_columns_lem soft columns long h e =
     subst⁻¹ SoftColumns e (record { many = as_many_columns short_page soft; soft = columns_are_soft short_page soft long h })
 
 -- what the levels left of an answer
-pub record AnsweredBy (d : PageAnswer) (n : ℕ) (z : ℤ) (held : List (List ℕ)) (changed erased : List ℕ) : Type 0 where
+pub record AnsweredBy (d : PageAnswer) (t : Totals) (held : Levels) : Type 0 where
   pub levels : List Level
-  pub is : d ≡ answered levels n
-  pub low_is : z ≡ page_low levels
-  pub rows_are : held ≡ rows levels
-  pub changed_are : changed ≡ changed_marks levels
-  pub erased_are : erased ≡ erased_marks levels
-  pub good : Rows held
-  pub four_changed : length changed ≡ 4
-  pub four_erased : length erased ≡ 4
+  pub is : d ≡ answered levels t.steps
+  pub low_is : t.low ≡ page_low levels
+  pub rows_are : held.rows ≡ rows levels
+  pub changed_are : held.changed ≡ changed_marks levels
+  pub erased_are : held.erased ≡ erased_marks levels
+  pub good : Rows held.rows
+  pub four_changed : length held.changed ≡ 4
+  pub four_erased : length held.erased ≡ 4
 
-module _ (read : Reader) (page held : List (List ℕ)) (changed erased : List ℕ) (r : ColumnsOutcome) (done : ColumnsDone read page r held changed erased) where
-  pub is_answered : (n : ℕ) (z : ℤ) → r ≡ Answered n z → AnsweredBy (decoded short short_outer read page) n z held changed erased
+ok_is_not_refused : {t : Totals} {r : Refusal} → ◌≡◌ {A = Result Totals Refusal} (Ok t) (Err r) → ⊥
+ok_is_not_refused e = cc e
+
+module _ (read : Reader) (page : List (List ℕ)) (held : Levels) where
+  pub is_answered : (t : Totals) → ColumnsDone read page (Ok t) held → AnsweredBy (decoded short short_outer read page) t held
   unfolding ColumnsDone
-  is_answered n z e = go (decoded short short_outer read page) refl done
+  is_answered t done = go (decoded short short_outer read page) done
     where
-      go : (d : PageAnswer) → decoded short short_outer read page ≡ d → Ends d r held changed erased → AnsweredBy (decoded short short_outer read page) n z held changed erased
-      go (answered ls m) ed h =
-          let same : m ≡ n = cc (sym h.0 ∙ e) in
+      go : (d : PageAnswer) → Ends d (Ok t) held → AnsweredBy d t held
+      go (answered ls m) h =
+          let same : t ≡ record { steps = m; low = page_low ls } = cc h.0 in
           record {
             levels = ls;
-            is = ed ∙ ap (answered ls) same;
-            low_is = cc (sym h.0 ∙ e);
+            is = ap (λ (x : Totals). answered ls x.steps) (sym same);
+            low_is = ap (λ (x : Totals). x.low) same;
             rows_are = h.1;
             changed_are = h.2;
             erased_are = h.3;
@@ -66,32 +72,24 @@ module _ (read : Reader) (page held : List (List ℕ)) (changed erased : List �
             four_changed = h.5;
             four_erased = h.6;
           }
-      go (refused l) ed h = let never : Refused l ≡ Answered n z = sym h ∙ e in let y : ◌≡◌ {A = ℕ} 0 1 = cc never in absurd (omega arith)
+      go (refused l) h = absurd (ok_is_not_refused h)
 
-  pub is_refused : (l : ℕ) → r ≡ Refused l → decoded short short_outer read page ≡ refused l
-  unfolding ColumnsDone
-  is_refused l e = go (decoded short short_outer read page) refl done
+  -- a refusal: number 10 with the level as its place, and the symbols as they were
+  pub is_refused : (r : Refusal) → ColumnsDone read page (Err r) held → (Err r ≡ outcome_of (decoded short short_outer read page)) × ((old : List ℕ) → old ≡ filled symbol_buffer old (decoded short short_outer read page))
+  unfolding ColumnsDone outcome_of filled
+  is_refused r done = go (decoded short short_outer read page) done
     where
-      go : (d : PageAnswer) → decoded short short_outer read page ≡ d → Ends d r held changed erased → decoded short short_outer read page ≡ refused l
-      go (answered ls m) ed h = let z : Answered m (page_low ls) ≡ Refused l = sym h.0 ∙ e in let y : ◌≡◌ {A = ℕ} 0 1 = cc z in absurd (omega arith)
-      go (refused k) ed h = let same : k ≡ l = cc (sym h ∙ e) in ed ∙ ap refused same
-
--- a refusal: number 10 with the level as its place, and the symbols as they were
-pub refusal_is_10 : (l : ℕ) → refused_page 10 l ≡ outcome_of (refused l)
-unfolding outcome_of
-refusal_is_10 l = refl
-
-pub refusal_keeps_the_symbols : (old : List ℕ) (l : ℕ) → old ≡ filled symbol_buffer old (refused l)
-unfolding filled
-refusal_keeps_the_symbols old l = refl
+      go : (d : PageAnswer) → Ends d (Err r) held → (Err r ≡ outcome_of d) × ((old : List ℕ) → old ≡ filled symbol_buffer old d)
+      go (answered ls m) h = absurd (ok_is_not_refused (sym h.0))
+      go (refused k) h = let same : r ≡ record { question = Reach; place = k } = cc h in (ap (λ (x : Refusal). Err x) same, λ old. refl)
 
 -- the outcome and the symbols of an answer
-module _ (d : PageAnswer) (n : ℕ) (z : ℤ) (held : List (List ℕ)) (changed erased : List ℕ) (a : AnsweredBy d n z held changed erased) where
-  pub answered_outcome : (cs es : List ℕ) (low : ℤ) → cs ≡ map ones changed → es ≡ map ones erased → low ≡ z
-      → record { number = 0; place = 0; report = record { steps = n; changed = cs; erased = es; changed_marks = changed; erased_marks = erased; low = low } } ≡ outcome_of d
+module _ (d : PageAnswer) (t : Totals) (held : Levels) (a : AnsweredBy d t held) where
+  pub answered_outcome : (cs es : List ℕ) (low : ℤ) → cs ≡ map ones held.changed → es ≡ map ones held.erased → low ≡ t.low
+      → ◌≡◌ {A = PageOutcome} (Ok (record { steps = t.steps; changed = cs; erased = es; changed_marks = held.changed; erased_marks = held.erased; low = low })) (outcome_of d)
   unfolding outcome_of
   answered_outcome cs es low ec ee el =
-      ap₂ (λ (x y : List ℕ). the_outcome x y changed erased low)
+      ap₂ (λ (x y : List ℕ). the_outcome x y held.changed held.erased low)
       (ec ∙ ap (map ones) a.changed_are ∙ ones_of_marks (λ l. l.changed) a.levels)
       (ee ∙ ap (map ones) a.erased_are ∙ ones_of_marks (λ l. l.erased) a.levels)
       ∙ ap₂ (λ (x y : List ℕ). the_outcome (changed_totals a.levels) (erased_totals a.levels) x y low) a.changed_are a.erased_are
@@ -99,9 +97,9 @@ module _ (d : PageAnswer) (n : ℕ) (z : ℤ) (held : List (List ℕ)) (changed 
       ∙ ap outcome_of (sym a.is)
     where
       the_outcome : List ℕ → List ℕ → List ℕ → List ℕ → ℤ → PageOutcome
-      the_outcome cs es changed erased low = record { number = 0; place = 0; report = record { steps = n; changed = cs; erased = es; changed_marks = changed; erased_marks = erased; low = low } }
+      the_outcome cs es changed erased low = Ok (record { steps = t.steps; changed = cs; erased = es; changed_marks = changed; erased_marks = erased; low = low })
 
-  pub answered_symbols : (old new : List ℕ) → new ≡ row_after_row held → new ≡ filled symbol_buffer old d
+  pub answered_symbols : (old new : List ℕ) → new ≡ row_after_row held.rows → new ≡ filled symbol_buffer old d
   unfolding filled
   answered_symbols old new e = e ∙ ap row_after_row a.rows_are ∙ ap (filled symbol_buffer old) (sym a.is)
 
@@ -118,24 +116,24 @@ fronts_are_a_word symbols fronts word e =
 -- decoding is asking and packing: what was asked for is an outcome and symbols
 module _ (read : Reader) (page : List (List ℕ)) (o : PageOutcome) (is : o ≡ outcome_of (decoded short short_outer read page)) where
   -- an answer's symbols are in range, and the bytes of their rows are its data
-  pub answer_is_packed : length page ≡ 63 → o.number ≡ 0 → (old symbols : List ℕ) → symbols ≡ filled symbol_buffer old (decoded short short_outer read page)
+  pub answer_is_packed : length page ≡ 63 → is_ok o ≡ true → (old symbols : List ℕ) → symbols ≡ filled symbol_buffer old (decoded short short_outer read page)
       → WordOf 64 252 symbols × ((kept new : List ℕ) → new ≡ bytes_of_rows short_page (rows_in short_page symbols) → new ≡ filled data_buffer kept (decoded short short_outer read page))
   unfolding outcome_of filled
-  answer_is_packed wide done old symbols = go (decoded short short_outer read page) refl (sym (ap (λ (x : PageOutcome). x.number) is) ∙ done)
+  answer_is_packed wide done old symbols = go (decoded short short_outer read page) refl (sym (ap (λ (x : PageOutcome). is_ok x) is) ∙ done)
     where
-      go : (d : PageAnswer) → decoded short short_outer read page ≡ d → (outcome_of d).number ≡ 0 → symbols ≡ filled symbol_buffer old d
+      go : (d : PageAnswer) → decoded short short_outer read page ≡ d → is_ok (outcome_of d) ≡ true → symbols ≡ filled symbol_buffer old d
           → WordOf 64 252 symbols × ((kept new : List ℕ) → new ≡ bytes_of_rows short_page (rows_in short_page symbols) → new ≡ filled data_buffer kept d)
-      go (refused l) ed z es = absurd (omega (arith, z))
+      go (refused l) ed z es = absurd (true≢false (sym z))
       go (answered ls n) ed z es = (
         subst⁻¹ (WordOf 64 252) es (answered_symbols_are_a_word short_page short_outer short_encoder ShortCodeword outer_laws read page wide ls n ed),
         λ kept new e. e ∙ ap (λ (x : List ℕ). bytes_of_rows short_page (rows_in short_page x)) es
             ∙ ap (bytes_of_rows short_page) (answered_rows_come_back short_page short_outer short_encoder ShortCodeword outer_laws read page wide ls n ed),
       )
 
-  pub refusal_is_not_packed : (o.number ≡ 0 → ⊥) → (kept : List ℕ) → kept ≡ filled data_buffer kept (decoded short short_outer read page)
+  pub refusal_is_not_packed : is_ok o ≡ false → (kept : List ℕ) → kept ≡ filled data_buffer kept (decoded short short_outer read page)
   unfolding outcome_of filled
-  refusal_is_not_packed other kept = go (decoded short short_outer read page) (λ z. other (ap (λ (x : PageOutcome). x.number) is ∙ z))
+  refusal_is_not_packed other kept = go (decoded short short_outer read page) (sym (ap (λ (x : PageOutcome). is_ok x) is) ∙ other)
     where
-      go : (d : PageAnswer) → ((outcome_of d).number ≡ 0 → ⊥) → kept ≡ filled data_buffer kept d
-      go (answered ls n) f = absurd (f refl)
+      go : (d : PageAnswer) → is_ok (outcome_of d) ≡ false → kept ≡ filled data_buffer kept d
+      go (answered ls n) f = absurd (true≢false f)
       go (refused l) f = refl

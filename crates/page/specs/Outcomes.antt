@@ -1,6 +1,8 @@
 -- 01: what page decoding reports, as the code gives it, and what it leaves in the buffer it fills: the data, or 02's corrected symbols. Assumes nothing.
-use Rattle.std.specs.Prelude.{List, map, ℕ, ℤ, pos, replicate}
-use Rattle.page.specs.declared.PageOutcome.{PageOutcome}
+use Rattle.std.specs.Prelude.{Result, Ok, Err, List, map, ℕ, ℤ, pos, replicate}
+use Rattle.questions.specs.declared.refusal.Question.TheVariants.{Reach}
+use Rattle.questions.specs.declared.refusal.Refusal.{Refusal}
+use Rattle.questions.specs.Answer.{refused as refused_by}
 use Rattle.page.specs.declared.Report.{Report}
 use Rattle.concatenated.specs.Lists.{total}
 use Rattle.concatenated.specs.Format.{short_page}
@@ -30,14 +32,18 @@ no_columns n z =
 abbrev pub refusal_report : Report
 refusal_report = no_columns 0 (pos 0)
 
--- what a refusal gives: its number and place, and that report
-abbrev pub refused_page : ℕ → ℕ → PageOutcome
-refused_page n p = record { number = n; place = p; report = refusal_report }
+-- what a page call answers: its number and place are those of crate questions' specs/Answer.antt; and its report
+abbrev pub PageOutcome : Type 0
+PageOutcome = Result Report Refusal
+
+abbrev pub report : PageOutcome → Report
+report (Ok r) = r
+report (Err r) = refusal_report
 
 -- number 0 with the report; or 01's number 10, "Place: the level in a page decode"
 unfoldable pub outcome_of : PageAnswer → PageOutcome
-outcome_of (answered ls n) = record { number = 0; place = 0; report = report_of ls n }
-outcome_of (refused l) = refused_page 10 l
+outcome_of (answered ls n) = Ok (report_of ls n)
+outcome_of (refused l) = refused_by Reach l
 
 -- a buffer that a page's answer fills: how many bytes it has, and what is made for it of the rows
 pub record Buffer : Type 0 where

@@ -1,3 +1,3 @@
 pub mod Questions
+pub mod Number
 pub mod Answer
-pub mod Outcome

@@ -1,33 +1,41 @@
 // 01, "Questions put to every call": what a call answers, and what question 5 looks for.
 #![tactic(auto)]
 
-ghost use Rattle.std.specs.Prelude.{◌≡◌};
-ghost use Rattle.questions.specs.Questions.{first_above};
+pub mod refusal;
 
-// What a call that gives one number answers. `number`, `place` and `value` of specs/Answer.antt are 01's words for its cases.
-#[derive(Drop)]
-pub enum Answer {
-    Value(u64),
-    Refused(u64, u64),
-}
+ghost use Rattle.std.specs.Prelude.{◌≡◌, length, leb};
+ghost use Rattle.questions.specs.Questions.{ask, first_above};
+ghost use Rattle.questions.specs.Answer.{refused, done};
 
-// What a call that fills a lent buffer answers. `number` and `place` of specs/Outcome.antt are 01's words for its cases.
-#[derive(Drop)]
-pub enum Outcome {
-    Done,
-    Refused(u64, u64),
+use refusal::{Question, Refusal};
+
+// A question: where the answer is no, the refusal.
+pub fn ask(yes: bool, question: Question, place: u64) -> Result<(), Refusal>
+    ensures { result ≡ ask yes (refused question place) done }
+{
+    if yes {
+        Ok(())
+    } else {
+        Err(Refusal { question, place })
+    }
 }
 
 // The index of the first value above `top`, or the length if there is none: question 5's place.
 pub fn first_above(s: &[u8], top: u8) -> usize
     ensures { result ≡ first_above s.now top }
 {
-    let mut i = 0;
-    while i < s.len() {
-        if s[i] > top {
+    for (i, &x) in s.iter().enumerate() {
+        if x > top {
             return i;
         }
-        i += 1;
     }
-    i
+    s.len()
+}
+
+// Question 5 of values 0..`top`.
+pub fn in_range(s: &[u8], top: u8) -> Result<(), Refusal>
+    ensures { result ≡ ask (leb (length s.now) (first_above s.now top)) (refused Question.Range (first_above s.now top)) done }
+{
+    let bad = first_above(s, top);
+    ask(s.len() <= bad, Question::Range, bad as u64)
 }

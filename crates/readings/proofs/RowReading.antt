@@ -1,7 +1,8 @@
 -- The reading of a level: a column's search as its reading, and the columns read so far. Assumes nothing.
+use mathlib.Core.Bool.{Bool, ◌||◌}
 use mathlib.Core.List.{List, [], ◌∷◌, ◌++◌, map}
 use mathlib.Core.Path.{◌≡◌, refl, sym, ap, ap₂, ◌∙◌}
-use Prim.Native.Nat.{ℕ, ◌+◌, ◌*◌, ◌≤◌, ◌<◌}
+use Prim.Native.Nat.{ℕ, zero, suc, ◌+◌, ◌*◌, ◌≤◌, ◌<◌}
 use native.Mathlib.Numerals.{add-one}
 use native.Mathlib.Omega.{arith}
 use lib.IntN.{ℤ}
@@ -16,47 +17,44 @@ use Rattle.trellis.specs.Demand.{Search as Kind}
 use Rattle.trellis.specs.Trellis.{WordFound}
 use Rattle.trellis.specs.TwoWords.{Choice, searched_by}
 use Rattle.search.specs.Outcomes.{code_outcome}
-use Rattle.search.specs.declared.SearchOutcome.{SearchOutcome}
-use Rattle.search.specs.declared.SearchOutcome.TheVariants.{Found, Spent}
+use Rattle.search.specs.declared.Found.{Found}
+use Rattle.std.specs.Prelude.{Option, Result, Ok, Err}
+use Rattle.std.specs.Option.{ok_or}
 use Rattle.trellis.proofs.Short.{searchable}
 use Rattle.concatenated.specs.Lists.{sum}
 use Rattle.concatenated.specs.SoftPage.{Soft}
 use Rattle.concatenated.specs.Decode.{Reading, Reader, spent, symbol, symbols, mark, marks, lows, count, steps}
 use Rattle.concatenated.specs.Readers.{reading_of, reader_of, short_reader}
 use Rattle.concatenated.specs.Flags.{flag}
+use Rattle.concatenated.specs.Chip.{some_column}
 use Rattle.readings.specs.Steps.{as_reading, WordInRange, RowRead}
 use Rattle.concatenated.proofs.Lists.{all_at, map_append}
 use Rattle.paths.proofs.Low.{lowest_from_append}
-use Rattle.concatenated.proofs.Readings.{ReadsWords, found_is_a_word, readers_read_words}
+use Rattle.paths.proofs.Booleans.{or_assoc, or_false}
+use Rattle.concatenated.proofs.Readings.{ShortReadsWords, found_is_a_word}
 use Rattle.concatenated.proofs.Readings
 use Rattle.concatenated.proofs.Lows.{lows_append}
 use Rattle.concatenated.proofs.Filling.{Front, front_none, front_more, front_all}
 use Rattle.column.proofs.Tabulated.{map_at}
 
-by_code : (limit : ℕ) (o : SearchResult WordFound) → as_reading limit (code_outcome o) ≡ reading_of limit o
+by_code : (limit : ℕ) (o : SearchResult WordFound) → as_reading (ok_or (code_outcome o) limit) ≡ reading_of limit o
 unfolding code_outcome reading_of
 by_code limit (answer w n) = refl
 by_code limit (Search.spent n) = refl
 
--- the word that a search gives is in range, by whatever reader it is a reading
-pub word_is_in_range : (limit i : ℕ) → i < 4 → (read : Reader) → ReadsWords short level_values limit read i → (c : List ℕ) (n : ℕ) (r : SearchOutcome) → as_reading n r ≡ read i c → WordInRange r
-word_is_in_range limit i h read reads c n (Found w m z) e = (found_is_a_word short i (searchable i h) level_values limit read reads c (record { column = w; low = z }) m (sym e)).0
-word_is_in_range limit i h read reads c n Spent e = tt
+-- the word that a reading gives is in range
+pub word_is_in_range : (limit i : ℕ) → i < 4 → (read : Reader) → ShortReadsWords limit read → (c : List ℕ) (r : Result Found ℕ) → as_reading r ≡ read i c → WordInRange r
+word_is_in_range limit i h read reads c (Ok f) e = (found_is_a_word short i (searchable i h) level_values limit read (reads i h) c (record { column = f.word; low = f.low }) f.count (sym e)).0
+word_is_in_range limit i h read reads c (Err n) e = tt
 
-module _ (choice : Choice) (kind : Kind) (limit i : ℕ) (h : i < 4) (c : List ℕ) where
-  reads : ReadsWords short level_values limit (short_reader choice kind limit) i
-  reads = readers_read_words short i (searchable i h) level_values limit choice kind
+-- and its count at most the limit
+pub count_within_the_limit : (limit i : ℕ) → i < 4 → (read : Reader) → ShortReadsWords limit read → (c : List ℕ) → count (read i c) ≤ limit
+count_within_the_limit limit i h read reads c = Readings.count_within_the_limit short i (searchable i h) level_values limit read (reads i h) c
 
-  -- the code's search is the reading
-  pub reads_it : (r : SearchOutcome) → r ≡ code_outcome (searched_by choice kind short (level_values i) limit c i) → as_reading limit r ≡ short_reader choice kind limit i c
-  unfolding reader_of
-  reads_it r e = ap (as_reading limit) e ∙ by_code limit (searched_by choice kind short (level_values i) limit c i)
-
-  pub word_in_range : (r : SearchOutcome) → r ≡ code_outcome (searched_by choice kind short (level_values i) limit c i) → WordInRange r
-  word_in_range r e = word_is_in_range limit i h (short_reader choice kind limit) reads c limit r (reads_it r e)
-
-  pub count_within_the_limit : count (short_reader choice kind limit i c) ≤ limit
-  count_within_the_limit = Readings.count_within_the_limit short i (searchable i h) level_values limit (short_reader choice kind limit) reads c
+-- the code's search in a way is the reading
+pub reads_it : (choice : Choice) (kind : Kind) (limit i : ℕ) (c : List ℕ) (r : Option Found) → r ≡ code_outcome (searched_by choice kind short (level_values i) limit c i) → as_reading (ok_or r limit) ≡ short_reader choice kind limit i c
+unfolding reader_of
+reads_it choice kind limit i c r e = ap (λ (x : Option Found). as_reading (ok_or x limit)) e ∙ by_code limit (searched_by choice kind short (level_values i) limit c i)
 
 -- a column of the page as the search takes it
 pub soft_column_lem : (c : List ℕ) → (length c ≡ 30) × Soft c → (k : ℕ) → k < 30 → get_or c k 0 ≤ 7
@@ -133,3 +131,27 @@ all_read i read work z₀ xs ms n z j y f h start =
       low_is = f.low_so ∙ ap₂ (λ (x : ℤ) (t : List (List ℕ)). lowest_from x (lows (map read t))) start (take_all j work (omega (arith, f.long_work, h)));
       few = omega (arith, f.few, last);
     }
+
+-- ---- whether a column passes a test
+
+module _ (test : List ℕ → Bool) where
+  one_more_after : (work : List (List ℕ)) (j : ℕ) → j < length work → some_column test (take (suc j) work) ≡ (some_column test (take j work) || test (get_or work j []))
+  unfolding some_column
+  one_more_after [] j h = absurd (omega arith)
+  one_more_after (c ∷ cs) zero h = or_false (test c)
+  one_more_after (c ∷ cs) (suc j) h = ap (λ (b : Bool). test c || b) (one_more_after cs j (omega arith)) ∙ sym (or_assoc (test c) (some_column test (take j cs)) (test (get_or cs j [])))
+
+  one_more : (work : List (List ℕ)) (j : ℕ) → j < length work → some_column test (take (j + 1) work) ≡ (some_column test (take j work) || test (get_or work j []))
+  one_more work j h = ap (λ (k : ℕ). some_column test (take k work)) (add-one j) ∙ one_more_after work j h
+
+  -- what was noted before, and of the first j columns
+  pub none_noted : (was : Bool) (work : List (List ℕ)) → was ≡ (was || some_column test (take 0 work))
+  unfolding some_column
+  none_noted was work = sym (or_false was)
+
+  pub one_more_noted : (was now next : Bool) (work : List (List ℕ)) (j : ℕ) → j < length work → now ≡ (was || some_column test (take j work)) → next ≡ (now || test (get_or work j [])) → next ≡ (was || some_column test (take (j + 1) work))
+  one_more_noted was now next work j h e n =
+      n ∙ ap (λ (b : Bool). b || test (get_or work j [])) e ∙ or_assoc was (some_column test (take j work)) (test (get_or work j [])) ∙ ap (λ (b : Bool). was || b) (sym (one_more work j h))
+
+  pub all_noted : (was now : Bool) (work : List (List ℕ)) (j : ℕ) → length work ≤ j → now ≡ (was || some_column test (take j work)) → now ≡ (was || some_column test work)
+  all_noted was now work j h e = e ∙ ap (λ (t : List (List ℕ)). was || some_column test t) (take_all j work h)

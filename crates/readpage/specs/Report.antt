@@ -1,5 +1,5 @@
 -- 01: "The station's interface", what the program prints for an input. Assumes nothing.
-use Rattle.std.specs.Prelude.{List, ℕ, replicate}
+use Rattle.std.specs.Prelude.{List, Ok, Err, ℕ, replicate}
 use Rattle.dump.specs.Dump.{soft_of}
 use Rattle.trellis.specs.Demand.{supercode}
 use Rattle.trellis.specs.TwoWords.{off}
@@ -10,8 +10,8 @@ use Rattle.concatenated.specs.Marks.{changed_marks, erased_marks}
 use Rattle.page.specs.Outcomes.{changed_totals, erased_totals}
 use Rattle.store_dumps.specs.Dumps.{read_answer}
 use Rattle.store_pages.specs.Pages.{decoded_page, default_limit}
-use Rattle.questions.specs.declared.Outcome.{Outcome}
-use Rattle.questions.specs.declared.Outcome.TheVariants.{Done, Refused}
+use Rattle.questions.specs.Answer.{Outcome}
+use Rattle.questions.specs.Number.{number_of}
 use Rattle.listing.specs.Lines.{refused_line, page_text}
 
 -- of page decoding: 10 has the level as its place
@@ -21,8 +21,8 @@ decoded_text (refused l) = refused_line 10 l
 
 -- of reading the dump, and what follows where it is not refused
 abbrev pub read_text : Outcome → List ℕ → List ℕ
-read_text Done text = text
-read_text (Refused n p) text = refused_line n p
+read_text (Ok v) text = text
+read_text (Err r) text = refused_line (number_of r.question) r.place
 
 -- "Its decoding and the program use the supercode search"; 02, point 9: with the default limit
 unfoldable pub output_of : List ℕ → List ℕ

@@ -2,51 +2,67 @@
 // The whole output is built in a buffer by functions with contracts, then written line by line.
 #![tactic(auto)]
 
-ghost use Rattle.std.specs.Prelude.{◌≡◌, true, ◌<◌, ◌≤◌, leb, length, take, OnOk, OnErr};
+ghost use Rattle.std.specs.Prelude.{◌≡◌, true, ◌<◌, leb, length, OnOk, OnErr};
 ghost use Rattle.std.specs.Io.KnownBytes.{Appends};
 ghost use Rattle.io.specs.Counts.{IsPrefixLen};
 ghost use Rattle.trellis.specs.Demand.{supercode};
 ghost use Rattle.trellis.specs.TwoWords.{off};
 ghost use Rattle.questions.specs.Questions.{first_above};
+ghost use Rattle.questions.specs.Number.{number_of};
 ghost use Rattle.store_pages.specs.Pages.{decoded_page, default_limit};
-ghost use Rattle.listing.specs.Text.{Appended, AppendsBeginning};
+ghost use Rattle.listing.specs.Text.{AppendsBeginning};
+ghost use Rattle.listing.specs.Lines.{refused_line};
 ghost use Rattle.readpage.specs.Report.{decoded_text};
 ghost use Rattle.readpage.specs.Input.{PrintedFor};
 
-use questions::Outcome;
+use listing::Text;
+use questions::refusal::Refusal;
 use std::io::{Read, Write};
 use store_pages::DEFAULT_LIMIT;
 
-// The lines of a soft page, each value 0..7.
-fn page_text(soft: &[u8], out: &mut [u8]) -> usize
-    requires { (length soft.now ≡ 1890) × (leb 1890 (first_above soft.now 7) ≡ true) × (813 ≤ length out.old) }
-    ensures { Appended 0 (decoded_text (decoded_page off supercode soft.now default_limit)) 813 out.old result out.new }
+// The line of a refusal.
+#[tactic(auto, using(listing::proofs::Lengths::refused_line_length))]
+fn refused_text(refusal: Refusal) -> Text<813>
+    ensures { result ≡ refused_line (number_of refusal.question) refusal.place }
 {
-    let mut data = [0u8; 150];
-    let page = store_pages::decode_page(soft, DEFAULT_LIMIT, &mut data);
-    if page.number != 0 {
-        return listing::append_refused(page.number, page.place, out, 0);
-    }
-    let report = page.report;
-    let changed = report.changed;
-    let changed_marks = report.changed_marks;
-    let erased = report.erased;
-    let erased_marks = report.erased_marks;
-    let levels = listing::append_ok(report.steps, out, 0);
-    let bytes = listing::append_levels(changed, changed_marks, erased, erased_marks, out, levels);
-    listing::append_data(&data, out, bytes)
+    let mut text = Text::new();
+    text.append_refused(refusal.question.number(), refusal.place);
+    text
 }
 
-// The whole output for the input whose first bytes were read: n of them stand in `input`, which has room for more than a dump, so that a longer input shows.
-fn output_of(input: &[u8], n: usize, out: &mut [u8]) -> usize
-    requires { (2048 < length input.now) × IsPrefixLen n input.now × (813 ≤ length out.old) }
-    ensures prefix_len { IsPrefixLen result out.new }
-    ensures printed_for { PrintedFor input.now n (take result out.new) }
+// The lines of a soft page, each value 0..7.
+#[tactic(auto, using(listing::proofs::Lengths::ok_line_length, listing::proofs::Lengths::level_lines_length))]
+fn page_text(soft: &[u8]) -> Text<813>
+    requires { (length soft.now ≡ 1890) × (leb 1890 (first_above soft.now 7) ≡ true) }
+    ensures { result ≡ decoded_text (decoded_page off supercode soft.now default_limit) }
+{
+    let mut data = [0u8; 150];
+    match store_pages::decode_page(soft, DEFAULT_LIMIT, &mut data) {
+        Ok(report) => {
+            let mut text = Text::new();
+            text.append_ok(report.steps);
+            text.append_levels(
+                report.changed,
+                report.changed_marks,
+                report.erased,
+                report.erased_marks,
+            );
+            text.append_data(&data);
+            text
+        }
+        Err(refusal) => refused_text(refusal),
+    }
+}
+
+// The whole output for the input whose first bytes were read: n of them stand in `input`, which has room for more than a dump, so that a longer input shows. The count stays apart from the buffer, as `read` gives it: `PrintedFor` speaks of both.
+fn output_of(input: &[u8], n: usize) -> Text<813>
+    requires { (2048 < length input.now) × IsPrefixLen n input.now }
+    ensures { PrintedFor input.now n result }
 {
     let mut soft = [0u8; 1890];
     match store_dumps::read_dump(&input[..n], &mut soft) {
-        Outcome::Done => page_text(&soft, out),
-        Outcome::Refused(number, place) => listing::append_refused(number, place, out, 0),
+        Ok(()) => page_text(&soft),
+        Err(refusal) => refused_text(refusal),
     }
 }
 
@@ -54,6 +70,7 @@ fn output_of(input: &[u8], n: usize, out: &mut [u8]) -> usize
 fn read_full<R: Read>(from: &mut R, buffer: &mut [u8]) -> usize
     ensures { IsPrefixLen result buffer.new }
 {
+    // No `read_exact`: of a shorter input it does not say how much was read.
     let mut n = 0;
     while n < buffer.len() {
         match from.read(&mut buffer[n..]) {
@@ -78,7 +95,6 @@ fn write_output<W: Write>(input: &[u8], n: usize, text: &[u8], out: &mut W) -> s
 fn main(rt: HostRuntime) -> std::io::Result<()> {
     let mut input = [0u8; 2049];
     let n = read_full(&mut rt.stdin(), &mut input);
-    let mut text = [0u8; 813];
-    let m = output_of(&input, n, &mut text);
-    write_output(&input, n, &text[..m], &mut rt.stdout())
+    let text = output_of(&input, n);
+    write_output(&input, n, text.as_bytes(), &mut rt.stdout())
 }

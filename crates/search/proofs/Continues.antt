@@ -4,14 +4,11 @@ use native.Mathlib.Omega.{arith}
 use mathlib.Core.Bool.{Bool, true, false, cond, ◌&&◌}
 use mathlib.Core.List.{List, [], ◌∷◌}
 use mathlib.Core.Logic.{◌⊎◌, inl, inr}
-use mathlib.Core.Path.{◌≡◌, refl, sym, ap, ap₂, ◌∙◌, subst, subst⁻¹}
+use mathlib.Core.Path.{◌≡◌, refl, sym, ap, ap₂, ◌∙◌, subst}
 use lib.Dec.{eqb, ltb}
 use lib.IntN.{ℤ, pos, ◌+ℤ◌}
 use lib.ListN.{get_or, get_or-eq_default}
 use borrow.Author.Tests.{ltb-true, ltb-false, eq-eqb, ne_eqb}
-use mir.Syntax.{w16}
-use mir.Val.{SFits, to_z, of_z}
-use mir.Facts.{to_z-of_z}
 use Rattle.paths.specs.Stack.{Nodes, extend, grow}
 use Rattle.paths.specs.Low.{lower}
 use Rattle.paths.specs.Search.{SearchResult, answer}
@@ -21,11 +18,12 @@ use Rattle.heap.specs.Holds.{weigh_list, Holds}
 use Rattle.trellis.specs.Values.{Values}
 use Rattle.trellis.specs.Order.{bit}
 use Rattle.trellis.specs.Keys.{Key, key, key_before, key_extension, key_passes, key_nodes, none_taken, key_search}
-use Rattle.stack.specs.Places.{Upto}
+use Rattle.std.specs.Prelude.{None, Some}
+use Rattle.stack.specs.declared.Path.{Path}
+use Rattle.stack.specs.Places.{path_key, Upto}
 use Rattle.extension.specs.Steps.{TableOf, Given, table_extension, table_nodes, Advanced}
 use Rattle.search.specs.Progress.{Standing, Going, Answered, Ended, Reached}
 use Rattle.search.specs.Outcomes.{outcome_of}
-use Rattle.search.specs.declared.SearchOutcome.TheVariants.{Spent}
 use Rattle.paths.proofs.Keys.{no_keys_left, stack_after_both, low_after_both}
 use Rattle.extension.proofs.Advances.{good_none}
 
@@ -61,30 +59,24 @@ module _ (n : ℕ) (table : List ℤ) (soft left right : List ℕ) (limit : ℕ)
         low_is = ap (λ (k : ℕ). low_after N k z (grow N p xs)) none;
       }
 
-  module _ (f f' : ℕ → Key) (m m' c : ℕ) (p y : Key) (d : Advanced N n f f' m m' p y) (st : Standing n f m c p) where
-    pub standing_next : Standing n f' m' (c + 1) y
-    standing_next = record { few = omega (arith, d.few, st.few); heap = d.heap; held = d.held; good = d.good }
+  module _ (f f' : ℕ → Key) (m m' c : ℕ) (p : Key) (st : Standing n f m c p) where
+    pub standing_next : (y : Path) → Advanced N n f f' m m' p (Some y) → Standing n f' m' (c + 1) (path_key y)
+    standing_next y d = record { few = omega (arith, d.few, st.few); heap = d.heap; held = d.held; good = d.taken.good }
 
-    pub standing_end : y.len ≡ 0 → Standing n f' m' c y
-    standing_end e = record { few = omega (arith, d.none e); heap = d.heap; held = d.held; good = d.good }
+  pub ended : (f f' : ℕ → Key) (c₀ : ℕ) (p₀ : Key) (z₀ : ℤ) (xs : List Key) (m m' c : ℕ) (p : Key) (z : ℤ) → c < limit → Advanced N n f f' m m' p None → Going N n limit f c₀ p₀ z₀ xs m c p z
+      → Ended N n limit f' c₀ p₀ z₀ xs m' c (key (pos 0) 0 0) z
+  ended f f' c₀ p₀ z₀ xs m m' c p z h d g =
+      record { later = g.later; within = h; none = refl; same = λ accept fuel. g.same accept fuel ∙ ap (run_keys N accept fuel c z) (d.lists g.rest g.holds) ∙ no_keys_left N accept fuel c z }
 
-  module _ (f f' : ℕ → Key) (c₀ : ℕ) (p₀ : Key) (z₀ : ℤ) (xs : List Key) (m m' c : ℕ) (p y : Key) (z : ℤ) (h : c < limit) (d : Advanced N n f f' m m' p y) (g : Going N n limit f c₀ p₀ z₀ xs m c p z) where
-    pub ended : y.len ≡ 0 → Ended N n limit f' c₀ p₀ z₀ xs m' c y z
-    ended none = go (d.lists g.rest g.holds)
-      where
-        go : ((y.len ≡ 0) × (grow N p g.rest ≡ [])) ⊎ ((0 < y.len) × (rest : List Key) × (grow N p g.rest ≡ y ∷ rest) × Holds Upto f' m' rest) → Ended N n limit f' c₀ p₀ z₀ xs m' c y z
-        go (inl e) = record { later = g.later; within = h; none = none; same = λ accept fuel. g.same accept fuel ∙ ap (run_keys N accept fuel c z) e.1 ∙ no_keys_left N accept fuel c z }
-        go (inr e) = absurd (omega (arith, e.0))
+  module _ (f f' : ℕ → Key) (c₀ : ℕ) (p₀ : Key) (z₀ : ℤ) (xs : List Key) (m m' c : ℕ) (p : Key) (taken : Path) (z : ℤ) (h : c < limit) (d : Advanced N n f f' m m' p (Some taken)) (g : Going N n limit f c₀ p₀ z₀ xs m c p z) where
+    abbrev y : Key
+    y = path_key taken
 
     abbrev Took : Type 0
     Took = (rest : List Key) × (grow N p g.rest ≡ y ∷ rest) × Holds Upto f' m' rest
 
-    took : (y.len ≡ 0 → ⊥) → Took
-    took ne = go (d.lists g.rest g.holds)
-      where
-        go : ((y.len ≡ 0) × (grow N p g.rest ≡ [])) ⊎ ((0 < y.len) × (rest : List Key) × (grow N p g.rest ≡ y ∷ rest) × Holds Upto f' m' rest) → Took
-        go (inl e) = absurd (ne e.0)
-        go (inr e) = (e.1, e.2, e.3)
+    took : Took
+    took = d.lists g.rest g.holds
 
     abbrev low : ℤ
     low = lower z y.sum
@@ -114,9 +106,9 @@ module _ (n : ℕ) (table : List ℤ) (soft left right : List ℕ) (limit : ℕ)
     low_step e =
         ap₂ (low_after N 1) g.low_is (sym e.1 ∙ g.stack) ∙ low_after_both N (c - c₀) 1 z₀ (grow N p₀ xs) ∙ ap (λ (k : ℕ). low_after N k z₀ (grow N p₀ xs)) one_more
 
-    pub answered : (y.len ≡ 0 → ⊥) → y.len ≡ n → Answered N n limit f' c₀ p₀ z₀ xs m' (c + 1) y low
-    answered ne full =
-        let e = took ne in
+    pub answered : y.len ≡ n → Answered N n limit f' c₀ p₀ z₀ xs m' (c + 1) y low
+    answered full =
+        let e = took in
         subst (λ (i : ℕ). Answered N n limit f' c₀ p₀ z₀ xs m' i y low) (plus_one c)
         (record {
           rest = e.0;
@@ -129,16 +121,16 @@ module _ (n : ℕ) (table : List ℤ) (soft left right : List ℕ) (limit : ℕ)
           low_is = low_step e;
         })
 
-    pub going_next : (y.len ≡ 0 → ⊥) → (y.len ≡ n → ⊥) → Going N n limit f' c₀ p₀ z₀ xs m' (c + 1) y low
-    going_next ne nf =
-        let e = took ne in
+    pub going_next : (y.len ≡ n → ⊥) → Going N n limit f' c₀ p₀ z₀ xs m' (c + 1) y low
+    going_next nf =
+        let e = took in
         subst (λ (i : ℕ). Going N n limit f' c₀ p₀ z₀ xs m' i y low) (plus_one c)
         (record {
           rest = e.0;
           holds = e.2;
           later = omega (arith, g.later);
           within = inl (omega arith);
-          partial = inl (omega (arith, d.good.short, nf));
+          partial = inl (omega (arith, d.taken.good.short, nf));
           same = λ accept fuel. run_step e accept fuel ∙ ap (step accept fuel e.0) (ne_eqb y.len n nf);
           taken = λ k i. let steps : c - c₀ ≡ k = omega (arith, i, g.later) in sym e.1 ∙ g.stack ∙ ap (λ (j : ℕ). stack_after N j (grow N p₀ xs)) steps;
           stack = stack_step e;
@@ -163,29 +155,10 @@ same_nodes n soft left right table vs g t = λ i. record { extension = λ b k. e
 
 -- ---- what the contract says
 
--- a sum that is handed on
-pub standing_at : (n : ℕ) (f : ℕ → Key) (m c : ℕ) (z : ℤ) (l b : ℕ) → SFits w16 z → Standing n f m c (key z l b) → Standing n f m c (key (to_z w16 (of_z w16 z)) l b)
-standing_at n f m c z l b h = subst⁻¹ (λ (y : ℤ). Standing n f m c (key z l b) → Standing n f m c (key y l b)) (to_z-of_z h) (λ q. q)
-
--- a lowest sum that is handed on
-module _ (N : Nodes Key) (n limit : ℕ) (f : ℕ → Key) (c₀ : ℕ) (p₀ : Key) (z₀ : ℤ) (xs : List Key) (m c : ℕ) (p : Key) (low z : ℤ) (fits : SFits w16 z) (is : z ≡ low) where
-  handed_on : low ≡ to_z w16 (of_z w16 z)
-  handed_on = sym is ∙ sym (to_z-of_z fits)
-
-  pub going_at : Going N n limit f c₀ p₀ z₀ xs m c p low → Going N n limit f c₀ p₀ z₀ xs m c p (to_z w16 (of_z w16 z))
-  going_at = subst (λ (y : ℤ). Going N n limit f c₀ p₀ z₀ xs m c p low → Going N n limit f c₀ p₀ z₀ xs m c p y) handed_on (λ g. g)
-
-  pub answered_at : Answered N n limit f c₀ p₀ z₀ xs m c p low → Answered N n limit f c₀ p₀ z₀ xs m c p (to_z w16 (of_z w16 z))
-  answered_at = subst (λ (y : ℤ). Answered N n limit f c₀ p₀ z₀ xs m c p low → Answered N n limit f c₀ p₀ z₀ xs m c p y) handed_on (λ a. a)
-
 pub reached_by : (n : ℕ) (soft left right : List ℕ) (table : List ℤ) (vs : Values) → Given n soft left right table → TableOf vs table
-    → (limit : ℕ) (f : ℕ → Key) (c₀ : ℕ) (s : ℤ) (l b : ℕ) (z : ℤ) (xs : List Key) (m c : ℕ) (y : Key) (z' : ℤ) → SFits w16 s → SFits w16 z
-    → Reached (table_nodes n table soft left right) n limit f c₀ (key (to_z w16 (of_z w16 s)) l b) (to_z w16 (of_z w16 z)) xs m c y z'
-    → Reached (key_nodes n vs soft left right) n limit f c₀ (key s l b) z xs m c y z'
-reached_by n soft left right table vs g t limit f c₀ s l b z xs m c y z' hs hz r =
-    subst (λ (M : Nodes Key). Reached M n limit f c₀ (key s l b) z xs m c y z') (same_nodes n soft left right table vs g t)
-    (subst (λ (i : ℤ). Reached (table_nodes n table soft left right) n limit f c₀ (key i l b) z xs m c y z') (to_z-of_z hs)
-    (subst (λ (i : ℤ). Reached (table_nodes n table soft left right) n limit f c₀ (key (to_z w16 (of_z w16 s)) l b) i xs m c y z') (to_z-of_z hz) r))
+    → (limit : ℕ) (f : ℕ → Key) (c₀ : ℕ) (p : Key) (z : ℤ) (xs : List Key) (m c : ℕ) (y : Key) (z' : ℤ)
+    → Reached (table_nodes n table soft left right) n limit f c₀ p z xs m c y z' → Reached (key_nodes n vs soft left right) n limit f c₀ p z xs m c y z'
+reached_by n soft left right table vs g t limit f c₀ p z xs m c y z' = subst (λ (M : Nodes Key). Reached M n limit f c₀ p z xs m c y z') (same_nodes n soft left right table vs g t)
 
 -- the empty path's extensions are the stack before a path is taken
 pub start_grows : (n : ℕ) (vs : Values) (soft left right : List ℕ) → 0 < n → grow (key_nodes n vs soft left right) (key (pos 0) 0 0) [] ≡ extend (key_nodes n vs soft left right) (key (pos 0) 0 0) []
@@ -227,7 +200,7 @@ module _ (n limit : ℕ) (vs : Values) (soft left right : List ℕ) (f : ℕ →
   pub answer_is : y.len ≡ n → key_search n vs soft left right limit ≡ answer (record { key = y; low = z }) c
   answer_is full = let a = word_is_taken full in search_is (limit - c) (omega (arith, a.within)) ∙ a.same always (limit - c)
 
-  pub spent_is : (y.len ≡ n → ⊥) → Spent ≡ outcome_of (key_search n vs soft left right limit)
+  pub spent_is : (y.len ≡ n → ⊥) → None ≡ outcome_of (key_search n vs soft left right limit)
   unfolding outcome_of run_keys
   spent_is partial = go r.way
     where
@@ -235,7 +208,7 @@ module _ (n limit : ℕ) (vs : Values) (soft left right : List ℕ) (f : ℕ →
       all h (inl w) = omega arith
       all h (inr w) = omega arith
 
-      go : Ways → Spent ≡ outcome_of (key_search n vs soft left right limit)
+      go : Ways → None ≡ outcome_of (key_search n vs soft left right limit)
       go (inl g) = sym (ap outcome_of (search_is 0 (all g.0 g.1.within) ∙ g.1.same always 0))
       go (inr (inl a)) = absurd (partial a.full)
       go (inr (inr e)) = sym (ap outcome_of (search_is (limit - c) (omega (arith, e.within)) ∙ e.same always (limit - c)))

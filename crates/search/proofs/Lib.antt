@@ -1,3 +1,4 @@
 pub mod Continues
+pub mod Lowest
 pub mod Tables
 pub mod ShortSearch

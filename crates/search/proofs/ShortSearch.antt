@@ -18,7 +18,8 @@ use Rattle.trellis.specs.Demand.{Search, whole, supercode, trellis}
 use Rattle.trellis.specs.Trellis.{searched}
 use Rattle.extension.specs.Steps.{ZeroOrOdd, Given, TableOf}
 use Rattle.search.specs.Outcomes.{outcome_of, code_outcome, TablesFor, Searchable30}
-use Rattle.search.specs.declared.SearchOutcome.{SearchOutcome}
+use Rattle.std.specs.Prelude.{Option}
+use Rattle.search.specs.declared.Found.{Found}
 use Rattle.trellis.proofs.Sums.{level_values_near}
 use Rattle.trellis.proofs.Keys.{by_bits, key_search_is_the_search, NotAbove, few_bits_are_not_above}
 use Rattle.trellis.proofs.Short.{searchable}
@@ -56,7 +57,7 @@ level_table_near s i h left right table tables k l = subst⁻¹ (λ (t : List �
 pub level_not_above : (i : ℕ) → i < 4 → (soft : List ℕ) → NotAbove 30 (level_values i) soft
 level_not_above i h soft = few_bits_are_not_above 30 60 (level_values i) soft (level_values_near i h) (lit≤ tt)
 
-pub search_short : (s : Search) (i : ℕ) → i < 4 → (soft left right : List ℕ) (table : List ℤ) → TablesFor s i left right table → (limit : ℕ) (r : SearchOutcome)
+pub search_short : (s : Search) (i : ℕ) → i < 4 → (soft left right : List ℕ) (table : List ℤ) → TablesFor s i left right table → (limit : ℕ) (r : Option Found)
     → r ≡ outcome_of (key_search 30 (level_values i) soft left right limit) → r ≡ code_outcome (searched (trellis s short (level_values i) soft i) limit)
 search_short s i h soft left right table tables limit r e =
     e ∙ by_number (key_search 30 (level_values i) soft left right limit)

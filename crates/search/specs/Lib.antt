@@ -1,2 +1,3 @@
 pub mod Progress
 pub mod Outcomes
+pub mod Lent

@@ -1,5 +1,5 @@
 -- For the code's contracts: the outcome of a search as the code gives it, what the short page's search is lent, and which search a flag names. Assumes nothing.
-use Rattle.std.specs.Prelude.{Bool, true, false, List, [], ◌≡◌, ℕ, ◌+◌, ◌≤◌, ◌<◌, ℤ, pos, nat_abs, length, get_or}
+use Rattle.std.specs.Prelude.{Bool, true, false, List, [], Option, None, Some, ◌≡◌, ℕ, ◌+◌, ◌≤◌, ◌<◌, ℤ, pos, nat_abs, length, get_or}
 use Rattle.column.specs.Shape.{short}
 use Rattle.paths.specs.Search.{SearchResult, answer, spent}
 use Rattle.paths.specs.Keys.{WithLow}
@@ -8,17 +8,16 @@ use Rattle.trellis.specs.Trellis.{WordFound}
 use Rattle.trellis.specs.Keys.{Key, MasksFor}
 use Rattle.trellis.specs.Demand.{Search, whole, supercode}
 use Rattle.extension.specs.Steps.{ZeroOrOdd, table_of}
-use Rattle.search.specs.declared.SearchOutcome.{SearchOutcome}
-use Rattle.search.specs.declared.SearchOutcome.TheVariants.{Found, Spent}
+use Rattle.search.specs.declared.Found.{Found}
 
-unfoldable pub outcome_of : SearchResult (WithLow Key) → SearchOutcome
-outcome_of (answer k c) = Found k.key.bits c k.low
-outcome_of (spent c) = Spent
+unfoldable pub outcome_of : SearchResult (WithLow Key) → Option Found
+outcome_of (answer k c) = Some (record { word = k.key.bits; count = c; low = k.low })
+outcome_of (spent c) = None
 
--- a word as a column's number, with its count and its low point; or spent
-unfoldable pub code_outcome : SearchResult WordFound → SearchOutcome
-code_outcome (answer w c) = Found w.column c w.low
-code_outcome (spent c) = Spent
+-- a word as a column's number, with its count and its low point; or none, where it is spent
+unfoldable pub code_outcome : SearchResult WordFound → Option Found
+code_outcome (answer w c) = Some (record { word = w.column; count = c; low = w.low })
+code_outcome (spent c) = None
 
 -- the tables of a search at a level: its two tables of masks, and the level's branch values
 pub record TablesFor (s : Search) (i : ℕ) (left right : List ℕ) (table : List ℤ) : Type 0 where

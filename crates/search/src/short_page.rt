@@ -4,6 +4,8 @@ ghost use Rattle.trellis.specs.Values.{values as branch_values, level_values};
 ghost use Rattle.extension.specs.Steps.{table_of};
 ghost use Rattle.search.specs.Outcomes.{TablesFor, SupercodesBelow, search_of};
 
+use extension::Trellis;
+
 // 01's branch values as a table: the entry 8 b + q is what the soft value q gives to the bit b.
 fn values() -> [i16; 16]
     ensures { result ≡ table_of branch_values }
@@ -35,10 +37,8 @@ pub fn level_values(level: usize) -> [i16; 16]
 {
     let rise = (2 * level) as i16;
     let mut table = values();
-    let mut k: usize = 0;
-    while k < 16 {
+    for k in 0..16 {
         table[k] += rise;
-        k += 1;
     }
     table
 }
@@ -51,6 +51,22 @@ pub struct Tables {
     pub values: [i16; 16],
 }
 
+impl Tables {
+    // What the search of a column by them is given.
+    pub fn trellis<'a>(&'a self, column: &'a [u8]) -> Trellis<'a>
+        ensures { (result.n ≡ 30) × (result.col.now ≡ column.now) × (result.left.now ≡ self.now.left)
+            × (result.right.now ≡ self.now.right) × (result.values.now ≡ self.now.values) }
+    {
+        Trellis {
+            n: 30,
+            col: column,
+            left: &self.left,
+            right: &self.right,
+            values: &self.values,
+        }
+    }
+}
+
 // The tables of either search at a level. Made once a level and lent to the searches.
 pub fn tables_of(level: usize, in_supercodes: bool) -> Tables
     requires { level < 4 }
@@ -61,13 +77,13 @@ pub fn tables_of(level: usize, in_supercodes: bool) -> Tables
         return Tables {
             left: column::masks::left_masks(level),
             right: column::masks::right_masks(level),
-            values: values,
+            values,
         };
     }
     Tables {
         left: column::masks::level_masks(level),
         right: column::masks::no_masks(),
-        values: values,
+        values,
     }
 }
 
@@ -76,11 +92,9 @@ pub fn supercode_masks() -> [[u64; 30]; 8]
     ensures { SupercodesBelow 4 result }
 {
     let mut masks = [[0u64; 30]; 8];
-    let mut level: usize = 0;
-    while level < 4 {
+    for level in 0..4 {
         masks[level] = column::masks::left_masks(level);
         masks[level + 4] = column::masks::right_masks(level);
-        level += 1;
     }
     masks
 }

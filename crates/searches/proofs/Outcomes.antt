@@ -1,10 +1,10 @@
 -- A search's outcome as its answer. Assumes nothing.
 use mathlib.Core.List.{List}
-use mathlib.Core.Path.{◌≡◌, sym, ap, ap₂, ◌∙◌}
+use mathlib.Core.Path.{◌≡◌, ap, ap₂}
 use Prim.Native.Nat.{ℕ, ◌≤◌, ◌<◌}
 use native.Mathlib.Omega.{arith}
-use lib.IntN.{ℤ}
 use lib.ListN.{get_or}
+use Rattle.std.specs.Prelude.{Option}
 use Rattle.paths.specs.Search.{SearchResult, answer, spent}
 use Rattle.column.specs.Shape.{short}
 use Rattle.trellis.specs.Values.{level_values}
@@ -12,22 +12,16 @@ use Rattle.trellis.specs.Demand.{Search}
 use Rattle.trellis.specs.Trellis.{WordFound}
 use Rattle.trellis.specs.TwoWords.{Choice, searched_by}
 use Rattle.search.specs.Outcomes.{code_outcome}
-use Rattle.search.specs.declared.SearchOutcome.{SearchOutcome}
-use Rattle.search.specs.declared.SearchOutcome.TheVariants.{Found as CodeFound}
+use Rattle.search.specs.declared.Found.{Found}
 use Rattle.list_of_two.specs.declared.Way.{Way}
 use Rattle.list_of_two.specs.Ways.{choice_of}
 use Rattle.questions.specs.Questions.{first_above}
-use Rattle.searches.specs.Searches.{number, place, word, count, low, Answered, outcome_answer, as_answer}
-use Rattle.searches.specs.declared.SearchAnswer.{SearchAnswer}
-use Rattle.searches.specs.declared.SearchAnswer.TheVariants.{Found}
+use Rattle.questions.specs.Answer.{number, place}
+use Rattle.searches.specs.Searches.{SearchAnswer, word, count, low, Answered, outcome_answer, as_answer}
 use Rattle.questions.proofs.FirstAbove.{below_first}
 
--- a word that was found, with its low point read back from its bits
-pub found_answer : {found : SearchOutcome} (w c : ℕ) (z y : ℤ) → found ≡ CodeFound w c z → y ≡ z → Found w c y ≡ as_answer found
-found_answer w c z y e same = ap (Found w c) same ∙ ap as_answer (sym e)
-
 -- the outcome that the code has of a search is its answer
-pub answered_as : (o : SearchResult WordFound) {found : SearchOutcome} → found ≡ code_outcome o → as_answer found ≡ outcome_answer o
+pub answered_as : (o : SearchResult WordFound) {found : Option Found} → found ≡ code_outcome o → as_answer found ≡ outcome_answer o
 unfolding code_outcome outcome_answer
 answered_as (answer w c) e = ap as_answer e
 answered_as (spent c) e = ap as_answer e

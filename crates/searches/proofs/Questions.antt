@@ -2,41 +2,35 @@
 use mathlib.Core.Bool.{true}
 use mathlib.Core.List.{List}
 use mathlib.Core.Path.{◌≡◌, refl, sym, ap, ◌∙◌}
-use Prim.Native.Nat.{ℕ, ◌≤◌, ◌<◌}
-use borrow.Author.Tests.{eq-eqb, eqb-true, lt-ltb, ltb-true, le-leb, leb-true, lt-leb}
+use Prim.Native.Nat.{ℕ}
+use borrow.Author.Tests.{eq-eqb, eqb-true, lt-ltb, ltb-true, le-leb, leb-true}
 use lib.Dec.{eqb, ltb, leb}
 use lib.ListN.{length}
 use Rattle.trellis.specs.TwoWords.{Choice, threshold_allowed}
 use Rattle.questions.specs.Questions.{first_above}
-use Rattle.questions.specs.declared.Outcome.{Outcome}
-use Rattle.questions.specs.declared.Outcome.TheVariants.{Done, Refused}
+use Rattle.questions.specs.Answer.{Outcome, refused, done}
+use Rattle.questions.specs.declared.refusal.Question.{Question}
+use Rattle.questions.specs.declared.refusal.Question.TheVariants.{InputLength, Level, Limit, Range, Threshold}
 use Rattle.questions.proofs.AllInRange.{no_value_above}
 use Rattle.questions.proofs.EitherWay.{led, led_on, asked_done}
 use Rattle.searches.specs.Searches.{Allowed, ask_search}
 use Rattle.searches.proofs.Outcomes.{asked_range}
 
 module _ (choice : Choice) (level : ℕ) (soft : List ℕ) (limit : ℕ) where
-  -- a limit that is not 1..2,000 is refused by 4
-  pub limit_too_low : length soft ≡ 30 → level < 4 → limit < 1 → Refused 4 0 ≡ ask_search choice level soft limit Refused Done
-  limit_too_low full exists low = simp (eq-eqb _ _ full, lt-ltb _ _ exists, lt-leb _ _ low)
-
-  pub limit_too_high : length soft ≡ 30 → level < 4 → 1 ≤ limit → 2000 < limit → Refused 4 0 ≡ ask_search choice level soft limit Refused Done
-  limit_too_high full exists some high = simp (eq-eqb _ _ full, lt-ltb _ _ exists, le-leb _ _ some, lt-leb _ _ high)
-
   -- all are answered yes
-  pub all_yes : threshold_allowed choice ≡ true → Allowed level soft limit → {A : Type 0} (refusal : ℕ → ℕ → A) (next : A) → ask_search choice level soft limit refusal next ≡ next
+  pub all_yes : threshold_allowed choice ≡ true → Allowed level soft limit → {A : Type 0} (refusal : Question → ℕ → A) (next : A) → ask_search choice level soft limit refusal next ≡ next
   all_yes in_range allowed refusal next =
       rw (eq-eqb _ _ allowed.full, lt-ltb _ _ allowed.level, le-leb _ _ allowed.some, le-leb _ _ allowed.most, in_range, no_value_above soft 30 7 allowed.full allowed.range) refl
 
   -- then the search may begin
-  pub ready : ask_search choice level soft limit Refused Done ≡ Done → Allowed level soft limit × (threshold_allowed choice ≡ true)
+  pub ready : ask_search choice level soft limit refused done ≡ done → Allowed level soft limit × (threshold_allowed choice ≡ true)
   ready e =
-      let one = asked_done (eqb (length soft) 30) 1 0 _ e in
-      let three = asked_done (ltb level 4) 3 0 _ one.1 in
-      let some = asked_done (leb 1 limit) 4 0 _ three.1 in
-      let most = asked_done (leb limit 2000) 4 0 _ some.1 in
-      let eleven = asked_done (threshold_allowed choice) 11 0 _ most.1 in
-      let five = asked_done (leb 30 (first_above soft 7)) 5 (first_above soft 7) _ eleven.1 in (
+      let one = asked_done (eqb (length soft) 30) InputLength 0 _ e in
+      let three = asked_done (ltb level 4) Level 0 _ one.1 in
+      let some = asked_done (leb 1 limit) Limit 0 _ three.1 in
+      let most = asked_done (leb limit 2000) Limit 0 _ some.1 in
+      let eleven = asked_done (threshold_allowed choice) Threshold 0 _ most.1 in
+      let five = asked_done (leb 30 (first_above soft 7)) Range (first_above soft 7) _ eleven.1 in (
         record {
           full = eqb-true _ _ one.0;
           level = ltb-true _ _ three.0;
@@ -48,12 +42,12 @@ module _ (choice : Choice) (level : ℕ) (soft : List ℕ) (limit : ℕ) where
       )
 
   -- the answer of the questions alone settles every use of them
-  pub settled : {A : Type 0} (refusal : ℕ → ℕ → A) (next : A) (o : Outcome) → o ≡ ask_search choice level soft limit Refused Done → ask_search choice level soft limit refusal next ≡ led o refusal next
+  pub settled : {A : Type 0} (refusal : Question → ℕ → A) (next : A) (o : Outcome) → o ≡ ask_search choice level soft limit refused done → ask_search choice level soft limit refusal next ≡ led o refusal next
   settled refusal next o e =
-      led_on (eqb (length soft) 30) 1 0 refusal next _
-      (led_on (ltb level 4) 3 0 refusal next _
-      (led_on (leb 1 limit) 4 0 refusal next _
-      (led_on (leb limit 2000) 4 0 refusal next _
-      (led_on (threshold_allowed choice) 11 0 refusal next _
-      (led_on (leb 30 (first_above soft 7)) 5 (first_above soft 7) refusal next Done refl)))))
+      led_on (eqb (length soft) 30) InputLength 0 refusal next _
+      (led_on (ltb level 4) Level 0 refusal next _
+      (led_on (leb 1 limit) Limit 0 refusal next _
+      (led_on (leb limit 2000) Limit 0 refusal next _
+      (led_on (threshold_allowed choice) Threshold 0 refusal next _
+      (led_on (leb 30 (first_above soft 7)) Range (first_above soft 7) refusal next done refl)))))
       ∙ ap (λ (x : Outcome). led x refusal next) (sym e)

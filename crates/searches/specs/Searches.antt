@@ -1,39 +1,41 @@
 -- 01: the answers of the column searches; 02, point 1: with list of two. Assumes nothing.
-use Rattle.std.specs.Prelude.{List, ◌≡◌, ℕ, ◌≤◌, ◌<◌, eqb, ltb, leb, ℤ, pos, length, get_or}
+use Rattle.std.specs.Prelude.{List, Option, None, Some, Result, Ok, Err, ◌≡◌, ℕ, ◌≤◌, ◌<◌, eqb, ltb, leb, ℤ, pos, length, get_or}
 use Rattle.column.specs.Shape.{short}
 use Rattle.paths.specs.Search.{SearchResult, answer, spent}
 use Rattle.trellis.specs.Values.{level_values}
 use Rattle.trellis.specs.Demand.{Search}
 use Rattle.trellis.specs.Trellis.{WordFound}
 use Rattle.trellis.specs.TwoWords.{Choice, threshold_allowed, searched_by}
-use Rattle.search.specs.declared.SearchOutcome.{SearchOutcome}
-use Rattle.search.specs.declared.SearchOutcome.TheVariants.{Found as CodeFound, Spent as CodeSpent}
+use Rattle.search.specs.declared.Found.{Found}
 use Rattle.questions.specs.Questions.{ask, first_above}
-use Rattle.searches.specs.declared.SearchAnswer.{SearchAnswer}
-use Rattle.searches.specs.declared.SearchAnswer.TheVariants.{Found, Refused}
+use Rattle.questions.specs.Answer.{refused}
+pub use Rattle.questions.specs.Answer.{number, place}
+use Rattle.questions.specs.declared.refusal.Question.{Question}
+use Rattle.questions.specs.declared.refusal.Question.TheVariants.{InputLength, Level, Limit, Range, Spent, Threshold}
+use Rattle.questions.specs.declared.refusal.Refusal.{Refusal}
 
--- what the cases are in 01's and 02's words: a number, 0 where nothing is refused, a place, the word, the count and the low point; a refusal has 0
-abbrev pub number : SearchAnswer → ℕ
-number (Found w c z) = 0
-number (Refused n p) = n
+-- what a column search answers
+abbrev pub SearchAnswer : Type 0
+SearchAnswer = Result Found Refusal
 
-abbrev pub place : SearchAnswer → ℕ
-place (Found w c z) = 0
-place (Refused n p) = p
+-- a word, the count and the low point
+abbrev pub found : ℕ → ℕ → ℤ → SearchAnswer
+found w c z = Ok (record { word = w; count = c; low = z })
 
+-- what an answer is in 01's and 02's words beside its number and place (crate questions): the word, the count and the low point; a refusal has 0
 abbrev pub word : SearchAnswer → ℕ
-word (Found w c z) = w
-word (Refused n p) = 0
+word (Ok f) = f.word
+word (Err r) = 0
 
 abbrev pub count : SearchAnswer → ℕ
-count (Found w c z) = c
-count (Refused n p) = 0
+count (Ok f) = f.count
+count (Err r) = 0
 
 abbrev pub low : SearchAnswer → ℤ
-low (Found w c z) = z
-low (Refused n p) = pos 0
+low (Ok f) = f.low
+low (Err r) = pos 0
 
--- a search that is due to answer `due` answered r: the case of the enum, its number, place, word, count and low point
+-- a search that is due to answer `due` answered r: the answer, its number, place, word, count and low point
 pub record Answered (due r : SearchAnswer) : Type 0 where
   pub answer : r ≡ due
   pub number : number r ≡ number due
@@ -56,27 +58,27 @@ pub record Allowed (i : ℕ) (soft : List ℕ) (limit : ℕ) : Type 0 where
 
 -- 9: "Did a column search end within the limit?"
 unfoldable pub outcome_answer : SearchResult WordFound → SearchAnswer
-outcome_answer (answer w c) = Found w.column c w.low
-outcome_answer (spent c) = Refused 9 0
+outcome_answer (answer w c) = found w.column c w.low
+outcome_answer (spent c) = refused Spent 0
 
 -- 1: 30 values; 3: the level; 4: the limit 1..2,000; 11: with list of two, its threshold; 5: each value 0..7; `refusal` gives what a no gives
-abbrev pub ask_search : {A : Type 0} → Choice → ℕ → List ℕ → ℕ → (ℕ → ℕ → A) → A → A
+abbrev pub ask_search : {A : Type 0} → Choice → ℕ → List ℕ → ℕ → (Question → ℕ → A) → A → A
 ask_search choice level soft limit refusal next =
-    ask (eqb (length soft) 30) (refusal 1 0)
-    (ask (ltb level 4) (refusal 3 0)
-    (ask (leb 1 limit) (refusal 4 0)
-    (ask (leb limit 2000) (refusal 4 0)
-    (ask (threshold_allowed choice) (refusal 11 0)
-    (ask (leb 30 (first_above soft 7)) (refusal 5 (first_above soft 7))
+    ask (eqb (length soft) 30) (refusal InputLength 0)
+    (ask (ltb level 4) (refusal Level 0)
+    (ask (leb 1 limit) (refusal Limit 0)
+    (ask (leb limit 2000) (refusal Limit 0)
+    (ask (threshold_allowed choice) (refusal Threshold 0)
+    (ask (leb 30 (first_above soft 7)) (refusal Range (first_above soft 7))
     next)))))
 
 -- these questions, then 9
 abbrev pub search_answer : Choice → Search → ℕ → List ℕ → ℕ → SearchAnswer
-search_answer choice s level soft limit = ask_search choice level soft limit Refused (outcome_answer (searched_by choice s short (level_values level) limit soft level))
+search_answer choice s level soft limit = ask_search choice level soft limit refused (outcome_answer (searched_by choice s short (level_values level) limit soft level))
 
 -- ---- For the code's contracts
 
 -- the outcome of the code's search as its answer
-abbrev pub as_answer : SearchOutcome → SearchAnswer
-as_answer (CodeFound w c z) = Found w c z
-as_answer CodeSpent = Refused 9 0
+abbrev pub as_answer : Option Found → SearchAnswer
+as_answer (Some f) = Ok f
+as_answer None = refused Spent 0

@@ -21,12 +21,10 @@ pub fn column_of(page: &[u8], j: usize) -> &[u8]
 
 // The columns of a soft page.
 pub fn load(soft: &[u8], work: &mut [[u8; 30]; 63])
-    requires { (length soft.now ≡ 1890) × (length work.old ≡ 63) }
+    requires { length soft.now ≡ 1890 }
     ensures { work.new ≡ soft_columns short_page soft.now }
 {
-    let mut j: usize = 0;
-    while j < 63 {
+    for j in 0..63 {
         work[j].copy_from_slice(column_of(soft, j));
-        j += 1;
     }
 }

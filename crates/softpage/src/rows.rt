@@ -21,14 +21,12 @@ fn value_off(w: u64, p: usize, q: u8) -> u8
 
 // A soft column with a word taken off.
 fn column_off(w: u64, column: [u8; 30]) -> [u8; 30]
-    requires { (length column ≡ 30) × Soft column }
+    requires { Soft column }
     ensures { result ≡ column_off w column }
 {
     let mut out = [0u8; 30];
-    let mut p: usize = 0;
-    while p < 30 {
+    for p in 0..30 {
         out[p] = value_off(w, p, column[p]);
-        p += 1;
     }
     out
 }
@@ -38,11 +36,8 @@ pub fn take_off(work: &mut [[u8; 30]; 63], level: usize, row: &[u8; 63])
     requires { (level < 4) × SoftColumns work.old × WordOf 64 63 row.now }
     ensures { work.new ≡ row_off short level row.now work.old }
 {
-    let mut j: usize = 0;
-    while j < 63 {
-        let column = work[j];
-        let w = column::level_word(level, row[j] as u64);
-        work[j] = column_off(w, column);
-        j += 1;
+    for j in 0..63 {
+        let w = column::level_word(level, u64::from(row[j]));
+        work[j] = column_off(w, work[j]);
     }
 }

@@ -2,30 +2,14 @@
 ghost use Rattle.std.specs.Prelude.{map, ◌≡◌, length};
 ghost use Rattle.std.specs.Int.Count.{ones};
 ghost use Rattle.concatenated.specs.Decode.{is_changed, changed};
-ghost use Rattle.concatenated.specs.Flags.{flag, is_one};
+ghost use Rattle.concatenated.specs.Flags.{is_one};
 ghost use Rattle.concatenated.specs.Marks.{mark_of};
 
-// 1 for a flag that is set.
-fn one_if(m: u8) -> u8
-    ensures { result ≡ flag (is_one m) }
-{
-    if m == 1 {
-        return 1;
-    }
-    0
-}
-
 // Whether a row altered the symbol of an unerased column.
-fn altered(x: u8, erased: u8, y: u8) -> u8
-    ensures { result ≡ flag (is_changed (is_one erased) x y) }
+fn altered(x: u8, erased: u8, y: u8) -> bool
+    ensures { result ≡ is_changed (is_one erased) x y }
 {
-    if erased == 1 {
-        return 0;
-    }
-    if x == y {
-        return 0;
-    }
-    1
+    erased != 1 && x != y
 }
 
 // The mark of the columns whose flag is set. Flags are 01's marks of a row, 1 = erased; a mark is 02's, a bit a column.
@@ -34,10 +18,8 @@ pub fn mark_of(flags: &[u8; 63]) -> u64
     ensures { result ≡ mark_of (map is_one flags.now) }
 {
     let mut mark: u64 = 0;
-    let mut j: usize = 0;
-    while j < 63 {
-        mark |= (one_if(flags[j]) as u64) << j;
-        j += 1;
+    for (j, &flag) in flags.iter().enumerate() {
+        mark |= u64::from(flag == 1) << j;
     }
     mark
 }
@@ -48,10 +30,8 @@ pub fn changed_mark(symbols: &[u8; 63], erased: &[u8; 63], row: &[u8; 63]) -> u6
     ensures { result ≡ mark_of (changed symbols.now (map is_one erased.now) row.now) }
 {
     let mut mark: u64 = 0;
-    let mut j: usize = 0;
-    while j < 63 {
-        mark |= (altered(symbols[j], erased[j], row[j]) as u64) << j;
-        j += 1;
+    for j in 0..63 {
+        mark |= u64::from(altered(symbols[j], erased[j], row[j])) << j;
     }
     mark
 }
@@ -60,19 +40,12 @@ pub fn changed_mark(symbols: &[u8; 63], erased: &[u8; 63], row: &[u8; 63]) -> u6
 fn total_of(mark: u64) -> u8
     ensures { result ≡ ones mark }
 {
-    u64::count_ones(mark) as u8
+    mark.count_ones() as u8
 }
 
 // How many columns each of four marks has.
 pub fn totals(marks: &[u64; 4]) -> [u8; 4]
-    requires { length marks.now ≡ 4 }
     ensures { result ≡ map ones marks.now }
 {
-    let mut out = [0u8; 4];
-    let mut i: usize = 0;
-    while i < 4 {
-        out[i] = total_of(marks[i]);
-        i += 1;
-    }
-    out
+    marks.map(total_of)
 }

@@ -1,7 +1,14 @@
 -- Standing before, or being the same: the order of keys as the heap uses it. Assumes nothing.
 use mathlib.Core.Bool.{Bool, true, false, false≢true}
 use mathlib.Core.Logic.{⊎_elim}
-use mathlib.Core.Path.{◌≡◌, refl, sym, ◌∙◌, subst, subst⁻¹}
+use mathlib.Core.Path.{◌≡◌, refl, sym, ap, ap₂, ◌∙◌, subst, subst⁻¹}
+use lib.Dec.{ltb}
+use lib.IntN.{ℤ}
+use lib.Signed.{lt_z}
+use borrow.Author.Tests.{ltb-false, le-ltb}
+use native.Mathlib.Omega.{arith}
+use Rattle.trellis.specs.Order.{first_by}
+use Rattle.trellis.proofs.Strict.{strict_int}
 use Rattle.trellis.specs.Keys.{Key, key_before}
 use Rattle.stack.specs.Places.{Upto}
 use Rattle.trellis.proofs.Order.{key_order}
@@ -39,3 +46,39 @@ key_dec p q =
     (⊎_elim
     (λ k. no (λ e. key_order.irreflexive p (subst⁻¹ (λ (x : Key). key_before p x ≡ true) e k)))
     (λ k. no (λ e. key_order.irreflexive p (subst⁻¹ (λ (x : Key). key_before x p ≡ true) e k)))) (key_order.total p q)
+
+-- ---- the first of sum and length in which two keys differ tells
+
+int_below_same : (x : ℤ) → lt_z x x ≡ false
+int_below_same x = go (lt_z x x) refl
+  where
+    go : (t : Bool) → lt_z x x ≡ t → t ≡ false
+    go true e = absurd (strict_int.irreflexive x e)
+    go false e = refl
+
+pub by_sum : (p q : Key) → (p.sum ≡ q.sum → ⊥) → key_before p q ≡ lt_z q.sum p.sum
+unfolding key_before
+by_sum p q ne = go (lt_z q.sum p.sum) refl (lt_z p.sum q.sum) refl
+  where
+    go : (a : Bool) → lt_z q.sum p.sum ≡ a → (b : Bool) → lt_z p.sum q.sum ≡ b → first_by a b (first_by (ltb q.len p.len) (ltb p.len q.len) (ltb p.bits q.bits)) ≡ a
+    go true ea b eb = refl
+    go false ea true eb = refl
+    go false ea false eb = absurd (⊎_elim ne (⊎_elim (λ k. false≢true (sym eb ∙ k)) (λ k. false≢true (sym ea ∙ k))) (strict_int.total p.sum q.sum))
+
+after_sum : (p q : Key) → p.sum ≡ q.sum → key_before p q ≡ first_by (ltb q.len p.len) (ltb p.len q.len) (ltb p.bits q.bits)
+unfolding key_before
+after_sum p q e =
+    ap₂ (λ (a b : Bool). first_by a b (first_by (ltb q.len p.len) (ltb p.len q.len) (ltb p.bits q.bits)))
+    (ap (λ (z : ℤ). lt_z q.sum z) e ∙ int_below_same q.sum) (ap (λ (z : ℤ). lt_z z q.sum) e ∙ int_below_same q.sum)
+
+pub by_len : (p q : Key) → p.sum ≡ q.sum → (p.len ≡ q.len → ⊥) → key_before p q ≡ ltb q.len p.len
+by_len p q e ne = after_sum p q e ∙ go (ltb q.len p.len) refl (ltb p.len q.len) refl
+  where
+    go : (a : Bool) → ltb q.len p.len ≡ a → (b : Bool) → ltb p.len q.len ≡ b → first_by a b (ltb p.bits q.bits) ≡ a
+    go true ea b eb = refl
+    go false ea true eb = refl
+    go false ea false eb = absurd (ne (omega (arith, ltb-false q.len p.len ea, ltb-false p.len q.len eb)))
+
+pub by_bits : (p q : Key) → p.sum ≡ q.sum → p.len ≡ q.len → key_before p q ≡ ltb p.bits q.bits
+by_bits p q e f =
+    after_sum p q e ∙ ap₂ (λ (a b : Bool). first_by a b (ltb p.bits q.bits)) (le-ltb q.len p.len (omega (arith, f))) (le-ltb p.len q.len (omega (arith, f)))

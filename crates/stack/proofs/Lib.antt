@@ -1,5 +1,4 @@
 pub mod KeyOrder
-pub mod Lifted
 pub mod Sums
 pub mod Ranks
 pub mod KeyWays

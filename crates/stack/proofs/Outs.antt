@@ -2,7 +2,7 @@
 use Prim.Native.Nat.{ℕ, suc, ◌+◌, ◌-◌, ◌≤◌, ◌<◌}
 use native.Mathlib.Omega.{arith}
 use mathlib.Core.Bool.{true, false}
-use mathlib.Core.Path.{◌≡◌, sym, ap, ◌∙◌, subst}
+use mathlib.Core.Path.{◌≡◌, refl, sym, ap, ◌∙◌, subst}
 use lib.IntN.{ℤ}
 use lib.Signed.{lt_z}
 use Rattle.heap.specs.Heap.{weigh, Every, Heap}
@@ -11,9 +11,6 @@ use Rattle.heap.proofs.Lists.{every_kept}
 use Rattle.trellis.specs.Keys.{Key, key, key_before}
 use Rattle.stack.specs.Places.{Upto, Out}
 use Rattle.stack.proofs.KeyOrder.{key_dec, upto_same, upto_anti, upto_trans, upto_not}
-
-pub key_sum : (l b : ℕ) (z z' : ℤ) → z ≡ z' → key z l b ≡ key z' l b
-key_sum l b z z' e = ap (λ (x : ℤ). key x l b) e
 
 root : (f : ℕ → Key) (n : ℕ) → Heap Upto f n → Every (Upto (f 0)) f n
 root f n p = root_first Upto upto_trans upto_same f n p
@@ -24,16 +21,11 @@ stay = every_kept Upto key_dec upto_same upto_anti upto_trans
 
 -- ---- one in, one out
 
-pub out_none : (f : ℕ → Key) (n : ℕ) (x y : Key) → n ≡ 0 → Heap Upto f n → x ≡ y → Out f n y (λ h. weigh h f n + h x)
-out_none f n x y e p q = record { heap = p; weight = λ h. ap (λ (z : Key). weigh h f n + h z) (sym q); first = λ j lt. absurd (omega arith) }
+pub out_none : (f : ℕ → Key) (n : ℕ) (x : Key) → n ≡ 0 → Heap Upto f n → Out f n x (λ h. weigh h f n + h x)
+out_none f n x e p = record { heap = p; weight = λ h. refl; first = λ j lt. absurd (omega arith) }
 
-pub out_same : (f : ℕ → Key) (n : ℕ) (x y : Key) → Heap Upto f n → key_before (f 0) x ≡ false → x ≡ y → Out f n y (λ h. weigh h f n + h x)
-out_same f n x y p b q =
-    record {
-      heap = p;
-      weight = λ h. ap (λ (z : Key). weigh h f n + h z) (sym q);
-      first = λ j lt. subst (λ (z : Key). Upto z (f j)) q (upto_trans x (f 0) (f j) b (root f n p j lt));
-    }
+pub out_same : (f : ℕ → Key) (n : ℕ) (x : Key) → Heap Upto f n → key_before (f 0) x ≡ false → Out f n x (λ h. weigh h f n + h x)
+out_same f n x p b = record { heap = p; weight = λ h. refl; first = λ j lt. upto_trans x (f 0) (f j) b (root f n p j lt) }
 
 pub out_sunk : (f₀ f : ℕ → Key) (n : ℕ) (x y : Key) → Heap Upto f₀ n → Heap Upto f n → ((h : Key → ℕ) → weigh h f n + h (f₀ 0) ≡ weigh h f₀ n + h x) → key_before (f₀ 0) x ≡ true → f₀ 0 ≡ y
     → Out f n y (λ h. weigh h f₀ n + h x)
@@ -62,9 +54,6 @@ out_last f n y some e q =
       weight = λ h. let r : h (f (n - 1)) ≡ h y = ap (λ (k : ℕ). h (f k)) e ∙ ap h q in omega (arith, weigh_last f n some h, r);
       first = λ j lt. absurd (omega arith);
     }
-
-pub heap_less : (f : ℕ → Key) (n m : ℕ) → m ≤ n → Heap Upto f n → Heap Upto f m
-heap_less f n m h p = record { order = λ j a b. p.order j a (omega arith) }
 
 pub out_moved : (f₀ f : ℕ → Key) (n : ℕ) (y : Key) → 0 < n → Heap Upto f₀ n → f₀ 0 ≡ y → Heap Upto f (n - 1)
     → ((h : Key → ℕ) → weigh h f (n - 1) + h (f₀ 0) ≡ weigh h f₀ (n - 1) + h (f₀ (n - 1))) → Out f (n - 1) y (λ h. weigh h f₀ n)

@@ -3,7 +3,7 @@ use Prim.Native.Nat.{ℕ, ◌+◌, ◌-◌, ◌*◌, ◌%◌, ◌≤◌, ◌<◌
 use native.Mathlib.Omega.{arith}
 use mathlib.Core.Bool.{Bool, true, false, cond}
 use mathlib.Core.Logic.{◌⊎◌, inl, inr}
-use mathlib.Core.Path.{◌≡◌, refl, sym, ap, ◌∙◌, subst, subst⁻¹}
+use mathlib.Core.Path.{◌≡◌, refl, sym, ◌∙◌, subst⁻¹}
 use lib.IntN.{ℤ, pos, negsuc}
 use lib.Signed.{lt_z}
 use lib.Dec.{ltb}
@@ -102,16 +102,6 @@ span_join f a b c i j r s p q = go (ltb r s) refl
 pub span_code : (f : ℕ → Key) (a b b' c i j r s k t : ℕ) → Span f a b i r → Span f b' c j s → b ≡ b' → k ≡ cond (ltb r s) j i → t ≡ cond (ltb r s) s r → Span f a c k t
 span_code f a b b' c i j r s k t p q eb ek et =
     subst⁻¹ (λ (x : ℕ). Span f a c x t) ek (subst⁻¹ (λ (x : ℕ). Span f a c (cond (ltb r s) j i) x) et (span_join f a b c i j r s p (subst⁻¹ (λ (x : ℕ). Span f x c j s) eb q)))
-
-pub span_one : (f : ℕ → Key) (i r : ℕ) → r ≡ rank_of (f i) → Fit (f i) → Span f i (i + 1) i r
-span_one f i r e h =
-    record {
-      low = omega arith;
-      high = omega arith;
-      is = e;
-      fit = λ j a b. let z : i ≡ j = omega arith in subst (λ (k : ℕ). Fit (f k)) z h;
-      most = λ j a b. let z : i ≡ j = omega arith in omega (arith, e, ap (λ (k : ℕ). rank_of (f k)) z);
-    }
 
 pub span_lead : (f : ℕ → Key) (n c e i r : ℕ) → Span f c e i r → e ≤ n → e ≤ c + 4 → (n ≤ e) ⊎ (c + 4 ≤ e) → Lead f n c i r
 span_lead f n c e i r p en ec full =

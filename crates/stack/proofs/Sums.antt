@@ -23,3 +23,10 @@ sum_back y z fy fz f = ap (λ (x : ℤ). to_z w16 (of_z w16 x)) (ap₂ ◌+ℤ�
 -- what a test of two signed numbers says: a signed local holds bits, so the flag speaks of what is read back from them
 pub lt_flag : {t : Bool} (a b : ℤ) → SFits w16 a → SFits w16 b → lt_z (to_z w16 (of_z w16 a)) (to_z w16 (of_z w16 b)) ≡ t → lt_z a b ≡ t
 lt_flag a b fa fb e = sym (ap₂ lt_z (to_z-of_z fa) (to_z-of_z fb)) ∙ e
+
+pub lt_back : (a b : ℤ) → SFits w16 a → SFits w16 b → lt_z (to_z w16 (of_z w16 a)) (to_z w16 (of_z w16 b)) ≡ lt_z a b
+lt_back a b fa fb = ap₂ lt_z (to_z-of_z fa) (to_z-of_z fb)
+
+-- sums with the same bits are one
+pub one_sum : {a b : ℤ} → SFits w16 a → SFits w16 b → of_z w16 a ≡ of_z w16 b → a ≡ b
+one_sum fa fb e = sym (to_z-of_z fa) ∙ ap (to_z w16) e ∙ to_z-of_z fb

@@ -1,23 +1,34 @@
--- For the code's contracts: the three arrays of a search as one row of keys, and the order of keys as an order of numbers. Assumes nothing.
-use Rattle.std.specs.Prelude.{false, List, ◌≡◌, ℕ, ◌+◌, ◌-◌, ◌*◌, ◌%◌, ◌≤◌, ◌<◌, ℤ, pos, negsuc, length, get_or}
+-- For the code's contracts: the places of a stack as a row of keys, and the order of keys as an order of numbers. Assumes nothing.
+use Rattle.std.specs.Prelude.{false, List, Option, None, Some, ◌≡◌, ℕ, ◌+◌, ◌-◌, ◌*◌, ◌%◌, ◌≤◌, ◌<◌, ℤ, pos, negsuc, get_or}
 use Rattle.std.specs.Int.{w16}
 use Rattle.std.proofs.Common.{SFits}
 use Rattle.heap.specs.Heap.{weigh, Every, Heap}
-use Rattle.trellis.specs.Keys.{Key, key_before}
+use Rattle.trellis.specs.Keys.{Key, key, key_before}
+use Rattle.stack.specs.declared.Path.{Path}
+use Rattle.stack.specs.declared.Row.{Row}
+
+-- the key of a path
+abbrev pub path_key : Path → Key
+path_key p = key p.sum p.len p.bits
 
 -- the key at a place of three arrays
 abbrev pub at : List ℤ → List ℕ → List ℕ → ℕ → Key
 at s l b k = record { sum = get_or s k (pos 0); len = get_or l k 0; bits = get_or b k 0 }
 
--- the three arrays have n places each
-pub record RoomOf (n : ℕ) (s : List ℤ) (l b : List ℕ) : Type 0 where
-  pub sums : length s ≡ n
-  pub lens : length l ≡ n
-  pub bits : length b ≡ n
+-- the key at a place of a row
+abbrev pub row_keys : {n : ℕ} → Row n → ℕ → Key
+row_keys r = at r.sums r.lens r.bits
 
--- 2,002 places
-abbrev pub Room : List ℤ → List ℕ → List ℕ → Type 0
-Room = RoomOf 2002
+-- a stack: its three arrays, and the number of paths
+pub record Stacked : Type 0 where
+  pub sums : List ℤ
+  pub lens : List ℕ
+  pub bits : List ℕ
+  pub paths : ℕ
+
+-- the keys at its places
+abbrev pub places : Stacked → ℕ → Key
+places s = at s.sums s.lens s.bits
 
 -- the second does not stand before the first
 abbrev pub Upto : Key → Key → Type 0
@@ -42,6 +53,12 @@ pub record Fit (k : Key) : Type 0 where
   pub sum : SFits w16 k.sum
   pub small : Small k
 
+-- what holds of every stack: of 2,002 places the first n have a path, in the order of a heap, each small
+pub record Stands (f : ℕ → Key) (n : ℕ) : Type 0 where
+  pub few : n ≤ 2002
+  pub heap : Heap Upto f n
+  pub small : Every Small f n
+
 -- of the places from a on, below b, the one at i has the largest rank, r
 pub record Span (f : ℕ → Key) (a b i r : ℕ) : Type 0 where
   pub low : a ≤ i
@@ -64,3 +81,8 @@ pub record Out (f : ℕ → Key) (m : ℕ) (y : Key) (was : (Key → ℕ) → �
   pub heap : Heap Upto f m
   pub weight : (h : Key → ℕ) → weigh h f m + h y ≡ was h
   pub first : Every (Upto y) f m
+
+-- Of n that were there, the first is out, and m are left; or none was there.
+abbrev pub Next : (ℕ → Key) → (ℕ → Key) → ℕ → ℕ → Option Path → Type 0
+Next f₀ f n m None = (n ≡ 0) × (m ≡ 0)
+Next f₀ f n m (Some y) = (0 < n) × (m ≡ n - 1) × Out f m (path_key y) (λ h. weigh h f₀ n)

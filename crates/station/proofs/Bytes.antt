@@ -2,31 +2,29 @@
 use mathlib.Core.List.{List, [], ◌∷◌, ◌++◌, append_assoc, append-nil}
 use mathlib.Core.Logic.{⊎_elim}
 use mathlib.Core.Path.{◌≡◌, refl, sym, ap, ap₂, ◌∙◌}
-use Prim.Native.Nat.{ℕ, zero, suc, ◌+◌, ◌-◌, ◌*◌, ◌/◌, ◌%◌, ◌^◌, ◌<◌}
+use Prim.Native.Nat.{ℕ, zero, suc, ◌+◌, ◌*◌, ◌/◌, ◌%◌, ◌^◌, ◌<◌}
 use native.Mathlib.Nat.{eq-or-lt_of_le, not-suc-le-zero, le_of_suc-le-suc, suc_inj}
 use native.Mathlib.Omega.{arith}
-use lib.ListN.{length, length-append, get_or, set, take, drop}
+use lib.ListN.{length, length-append, get_or, take, drop}
 use lib.Seq.{take_at, drop_at, drop-drop, drop-append-le, drop-append-add}
+use Rattle.std.specs.Int.{w16, w64, to_be_bytes}
 use Rattle.concatenated.specs.Data.{digits}
-use Rattle.concatenated.proofs.Digits.{digits_length, digit_at, byte_weight}
+use Rattle.concatenated.proofs.Digits.{digits_length}
 use Rattle.station.specs.Report.{mark_bytes}
 
--- byte i of eight, as the code shifts for it
-pub byte_at : (n i : ℕ) → i < 8 → n / 2 ^ (8 * (7 - i)) % 256 ≡ get_or (digits 256 8 n) i 0
-byte_at n i h = ap (λ (w : ℕ). n / w % 256) (byte_weight (7 - i)) ∙ sym (digit_at 256 8 n i h)
+-- a number's bytes are its digits
+pub eight_bytes : (n : ℕ) → to_be_bytes w64 n ≡ digits 256 8 n
+unfolding digits
+eight_bytes n = let all : n ≡ n / 1 = omega arith in ap (λ (m : ℕ). n / 256 ^ 7 % 256 ∷ n / 256 ^ 6 % 256 ∷ n / 256 ^ 5 % 256 ∷ n / 256 ^ 4 % 256 ∷ n / 256 ^ 3 % 256 ∷ n / 256 ^ 2 % 256 ∷ n / 256 ^ 1 % 256 ∷ m % 256 ∷ []) all
+
+pub two_bytes : (n : ℕ) → to_be_bytes w16 n ≡ digits 256 2 n
+unfolding digits
+two_bytes n = let all : n ≡ n / 1 = omega arith in ap (λ (m : ℕ). n / 256 % 256 ∷ m % 256 ∷ []) all
 
 -- four bytes in front of others
 pub four_bytes : (n : ℕ) (rest : List ℕ) → n / 16777216 % 256 ∷ n / 65536 % 256 ∷ n / 256 % 256 ∷ n % 256 ∷ rest ≡ digits 256 4 n ++ rest
 unfolding digits
 four_bytes n rest = let all : n ≡ n / 1 = omega arith in ap (λ (m : ℕ). n / 16777216 % 256 ∷ n / 65536 % 256 ∷ n / 256 % 256 ∷ m % 256 ∷ rest) all
-
--- two bytes written over two
-pub two_bytes_written : (out : List ℕ) (n : ℕ) → length out ≡ 2 → set (set out 0 (n / 256 % 256)) 1 (n % 256) ≡ digits 256 2 n
-unfolding digits
-two_bytes_written [] n h = absurd (omega (arith, h))
-two_bytes_written (x ∷ []) n h = absurd (omega (arith, h))
-two_bytes_written (x ∷ y ∷ []) n h = let all : n ≡ n / 1 = omega arith in ap (λ (m : ℕ). n / 256 % 256 ∷ m % 256 ∷ []) all
-two_bytes_written (x ∷ y ∷ z ∷ zs) n h = absurd (omega (arith, h))
 
 -- of each level two marks of eight bytes
 two_marks_length : (c e : ℕ) → length (digits 256 8 c ++ digits 256 8 e) ≡ 16

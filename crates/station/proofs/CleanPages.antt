@@ -5,13 +5,11 @@ use mathlib.Core.Logic.{◌⊎◌, inl, inr, ⊎_elim}
 use mathlib.Core.Path.{◌≡◌, ap, ◌∙◌}
 use Prim.Native.Nat.{ℕ, ◌≤◌, ◌<◌}
 use native.Mathlib.Omega.{arith}
-use borrow.Author.Tests.{ne_eqb}
 use lib.IntN.{ℤ}
 use lib.ListN.{length, get_or, get_or-replicate, replicate}
 use Rattle.trellis.specs.Demand.{supercode}
 use Rattle.trellis.specs.TwoWords.{Choice, on, threshold_allowed}
-use Rattle.page.specs.Outcomes.{data_buffer, symbol_buffer, Buffer}
-use Rattle.page.specs.declared.PageOutcome.{PageOutcome}
+use Rattle.page.specs.Outcomes.{data_buffer, symbol_buffer, Buffer, PageOutcome, report as reported}
 use Rattle.store_pages.specs.Pages.{decoded_page}
 use Rattle.store_pages.specs.CleanPages.{RightReadings, written_symbols, CameBackUnchanged, RefusedForUnread}
 use Rattle.store_pages.proofs.CleanPages.{clean_page_comes_back_unsearched_from_decoding, right_readings_never_mislead_decoding, right_readings_never_mislead_asking}
@@ -19,7 +17,9 @@ use Rattle.station.specs.Returned.{returned}
 use Rattle.station.specs.PageReturned.{page_answer, PageReturned, ListDecodedForC}
 use Rattle.station.specs.CleanPages.{ReturnedUnchanged, ReturnedUnsearched, ReturnedUnread}
 use Rattle.station.proofs.AskThenCommit.{as_the_call}
+use Rattle.station.proofs.Numbers.{refusal_is_not_reported}
 use Rattle.station.proofs.ReadBack.{report_is_read_back}
+use Rattle.questions.specs.Answer.{number, place}
 
 -- an entry of a list of zeros
 zero_at : (l : List ℕ) (level : ℕ) → l ≡ replicate 4 0 → level < 4 → get_or l level 0 ≡ 0
@@ -34,18 +34,18 @@ module _ (bytes soft : List ℕ) (right : RightReadings bytes soft) (limit : ℕ
 
       returned_unchanged : CameBackUnchanged (decoded_page choice supercode soft limit) contents due new_buffer → ReturnedUnchanged contents r new_buffer new_report
       returned_unchanged back =
-          let success : r ≡ 0 = entry.answer ∙ ap (λ (o : PageOutcome). returned o.number o.place) back.outcome in
+          let success : r ≡ 0 = entry.answer ∙ ap (λ (o : PageOutcome). returned (number o) (place o)) back.outcome in
           let read = report_is_read_back B choice soft limit buffer report r new_buffer new_report entry success in
           record { success = success; holds = back.holds; none_changed = λ level h. ((read.totals level h).0 ∙ zero_at _ level back.changed h, (read.marks level h).0 ∙ zero_at _ level back.changed_marks_are h) }
 
       returned_unread : RefusedForUnread choice supercode soft limit buffer due new_buffer → ReturnedUnread choice soft limit buffer report r new_buffer new_report
       returned_unread refusal =
-          let number : due.number ≡ 10 = ap (λ (o : PageOutcome). o.number) refusal.outcome in
+          let ten : number due ≡ 10 = ap number refusal.outcome in
           record {
             unread = refusal.unread;
-            refused = entry.answer ∙ ap (λ (o : PageOutcome). returned o.number o.place) refusal.outcome;
+            refused = entry.answer ∙ ap (λ (o : PageOutcome). returned (number o) (place o)) refusal.outcome;
             same_buffer = refusal.holds;
-            same_report = entry.report_is ∙ simp (ne_eqb _ _ (λ (z : due.number ≡ 0). absurd (omega (arith, number, z))));
+            same_report = entry.report_is ∙ refusal_is_not_reported report due (λ z. absurd (omega (arith, ten, z)));
           }
 
       never_misled : CameBackUnchanged (decoded_page choice supercode soft limit) contents due new_buffer ⊎ RefusedForUnread choice supercode soft limit buffer due new_buffer
@@ -78,8 +78,8 @@ module _ (bytes soft : List ℕ) (right : RightReadings bytes soft) (limit : ℕ
       record {
         unchanged = unchanged;
         none_erased = λ level h. (
-          (read.totals level h).1 ∙ zero_at _ level (ap (λ (o : PageOutcome). o.report.erased) is) h,
-          (read.marks level h).1 ∙ zero_at _ level (ap (λ (o : PageOutcome). o.report.erased_marks) is) h,
+          (read.totals level h).1 ∙ zero_at _ level (ap (λ (o : PageOutcome). (reported o).erased) is) h,
+          (read.marks level h).1 ∙ zero_at _ level (ap (λ (o : PageOutcome). (reported o).erased_marks) is) h,
         );
         no_steps = read.steps ∙ call.1;
       }

@@ -1,5 +1,6 @@
 pub mod Asked
 pub mod Places
+pub mod Numbers
 pub mod PageReturns
 pub mod Steps
 pub mod Bytes

@@ -14,17 +14,15 @@ use Rattle.trellis.specs.TwoWords.{Choice}
 use Rattle.reedsolomon.specs.Search.{OuterAnswer, Found, NoneInReach}
 use Rattle.concatenated.specs.Outer.{RowDecoder}
 use Rattle.concatenated.specs.Decode.{Reader, Reading, Level, State, going, stopped, decoded_row, settle, onward, run, outcome, decoded}
-use Rattle.page.specs.Outcomes.{refused_page, outcome_of}
-use Rattle.page.specs.declared.PageOutcome.{PageOutcome}
+use Rattle.page.specs.Outcomes.{outcome_of, PageOutcome}
 use Rattle.questions.specs.Questions.{first_above}
-use Rattle.questions.specs.Outcome.{number, place}
+use Rattle.questions.specs.Answer.{number, place, Outcome, refused as refused_by}
 use Rattle.questions.proofs.EitherWay.{either, first_bad}
 use Rattle.store_pages.specs.Pages.{encode_page_answer, ask_page, decoded_page}
 use Rattle.store_pages.specs.Committing.{no_word_in, commit_answer}
 use Rattle.store_pages.proofs.Asked.{every_way}
 use Rattle.store_dumps.specs.Dumps.{ask_fixed, ask_check, ask_block, read_answer}
 use Rattle.store_dumps.proofs.BlockByBlock.{each_keeps}
-use Rattle.questions.specs.declared.Outcome.{Outcome}
 use Rattle.station.specs.Returned.{returned}
 
 -- the largest number is 14, and a place is a block, a level or an index of a soft page or of symbols
@@ -35,7 +33,7 @@ abbrev pub SmallOutcome : Outcome → Type 0
 SmallOutcome o = Small (number o) (place o)
 
 abbrev pub SmallPage : PageOutcome → Type 0
-SmallPage o = Small o.number o.place
+SmallPage o = Small (number o) (place o)
 
 -- so the number and the place come back from what an entry returns
 pub number_and_place_come_back : (n p : ℕ) → Small n p → (returned n p % 256 ≡ n) × (returned n p / 256 ≡ p)
@@ -97,5 +95,5 @@ module _ (S : Shape) (outer : RowDecoder) (read : Reader) (page : List (List ℕ
   unfolding decoded
   decoded_small few = outcome_small (levels S) few (run S outer read page (levels S)) (run_below (levels S))
 
-pub page_small : (choice : Choice) (s : Search) (soft : List ℕ) (limit : ℕ) (room : Bool) → SmallPage (ask_page choice soft limit room refused_page (outcome_of (decoded_page choice s soft limit)))
-page_small choice s soft limit room = every_way choice soft limit room SmallPage refused_page (outcome_of (decoded_page choice s soft limit)) (λ n p some few near. (omega (arith, few), near)) (λ most. decoded_small _ _ _ _ (omega arith))
+pub page_small : (choice : Choice) (s : Search) (soft : List ℕ) (limit : ℕ) (room : Bool) → SmallPage (ask_page choice soft limit room refused_by (outcome_of (decoded_page choice s soft limit)))
+page_small choice s soft limit room = every_way choice soft limit room SmallPage refused_by (outcome_of (decoded_page choice s soft limit)) (λ n p some few near. (omega (arith, few), near)) (λ most. decoded_small _ _ _ _ (omega arith))

@@ -3,7 +3,6 @@ use mathlib.Core.List.{List, append_assoc}
 use mathlib.Core.Path.{◌≡◌, refl, sym, ap, ◌∙◌, subst⁻¹}
 use Prim.Native.Nat.{ℕ, zero, suc, ◌+◌, ◌*◌, ◌^◌, ◌≤◌, ◌<◌}
 use native.Mathlib.Omega.{arith}
-use borrow.Author.Tests.{eq-eqb}
 use lib.Dec.{lit≤}
 use lib.ListN.{length, length-drop, get_or, take, drop}
 use lib.Seq.{take_at, take-append-le, drop-append-le}
@@ -14,8 +13,7 @@ use Rattle.packing.specs.Packing.{joined, sixteen_bits, signed_of}
 use Rattle.packing.proofs.Signed.{signed_back, sixteen_bits_few}
 use Rattle.concatenated.specs.Data.{digits}
 use Rattle.concatenated.proofs.Digits.{digits_length, number_comes_back}
-use Rattle.page.specs.Outcomes.{refused_page, outcome_of, Buffer}
-use Rattle.page.specs.declared.PageOutcome.{PageOutcome}
+use Rattle.page.specs.Outcomes.{outcome_of, Buffer, PageOutcome, report as reported}
 use Rattle.page.specs.declared.Report.{Report}
 use Rattle.store_pages.specs.Pages.{decoded_page}
 use Rattle.store_pages.specs.Reports.{Marked}
@@ -28,21 +26,23 @@ use Rattle.station.specs.PageReturned.{have_room, page_answer, PageReturned}
 use Rattle.store_pages.proofs.Asked.{every_way}
 use Rattle.station.proofs.Bytes.{changed_part, erased_part}
 use Rattle.station.proofs.Marking.{front_length, to_marks_length, low_at}
+use Rattle.station.proofs.Numbers.{answer_is_reported}
 use Rattle.station.proofs.Steps.{steps_are_few}
+use Rattle.questions.specs.Answer.{number, refused as refused_by}
 
 abbrev ReportMarked : PageOutcome → Type 0
-ReportMarked o = Marked o.report
+ReportMarked o = Marked (reported o)
 
 answer_is_marked : (B : Buffer) (choice : Choice) (soft : List ℕ) (limit : ℕ) (buffer report : List ℕ) → ReportMarked (page_answer B choice soft limit buffer report)
 answer_is_marked B choice soft limit buffer report =
-    every_way choice soft limit (have_room B buffer report) ReportMarked refused_page (outcome_of (decoded_page choice supercode soft limit)) (λ n p some few near. refusals_are_marked)
+    every_way choice soft limit (have_room B buffer report) ReportMarked refused_by (outcome_of (decoded_page choice supercode soft limit)) (λ n p some few near. refusals_are_marked)
     (λ most. answers_are_marked limit (short_reader choice supercode limit) (short_readers_read_words choice supercode limit) soft (decoded_page choice supercode soft limit) refl)
 
 -- the low point has 16 bits
-answer_is_near : (B : Buffer) (choice : Choice) (soft : List ℕ) (limit : ℕ) (buffer report : List ℕ) → mag (page_answer B choice soft limit buffer report).report.low < 32768
+answer_is_near : (B : Buffer) (choice : Choice) (soft : List ℕ) (limit : ℕ) (buffer report : List ℕ) → mag (reported (page_answer B choice soft limit buffer report)).low < 32768
 answer_is_near B choice soft limit buffer report =
-    every_way choice soft limit (have_room B buffer report) (λ (o : PageOutcome). mag o.report.low < 32768) refused_page (outcome_of (decoded_page choice supercode soft limit)) (λ n p some few near. omega arith)
-    (λ most. omega (arith, mag_le (outcome_of (decoded_page choice supercode soft limit)).report.low, answers_are_near limit (short_reader choice supercode limit) (short_readers_read_words choice supercode limit) soft (decoded_page choice supercode soft limit) refl))
+    every_way choice soft limit (have_room B buffer report) (λ (o : PageOutcome). mag (reported o).low < 32768) refused_by (outcome_of (decoded_page choice supercode soft limit)) (λ n p some few near. omega arith)
+    (λ most. omega (arith, mag_le (reported (outcome_of (decoded_page choice supercode soft limit))).low, answers_are_near limit (short_reader choice supercode limit) (short_readers_read_words choice supercode limit) soft (decoded_page choice supercode soft limit) refl))
 
 totals_in : (r : Report) (level : ℕ) → level < 4 → (changed_total_in (report_bytes r) level ≡ get_or r.changed level 0) × (erased_total_in (report_bytes r) level ≡ get_or r.erased level 0)
 unfolding digits
@@ -80,9 +80,9 @@ bytes_hold r few marked near =
 
 -- the entry returned 0: the report that it left holds that of the page
 pub report_is_read_back : (B : Buffer) (choice : Choice) (soft : List ℕ) (limit : ℕ) (buffer report : List ℕ) (r : ℕ) (new_buffer new_report : List ℕ)
-    → PageReturned B choice soft limit buffer report r new_buffer new_report → r ≡ 0 → Holds new_report (page_answer B choice soft limit buffer report).report
+    → PageReturned B choice soft limit buffer report r new_buffer new_report → r ≡ 0 → Holds new_report (reported (page_answer B choice soft limit buffer report))
 report_is_read_back B choice soft limit buffer report r new_buffer new_report returned done =
     let d = page_answer B choice soft limit buffer report in
-    let answered : d.number ≡ 0 = omega (arith, returned.answer, done) in
-    let is : new_report ≡ report_bytes d.report = returned.report_is ∙ simp (eq-eqb _ _ answered) in
-    subst⁻¹ (λ (x : List ℕ). Holds x d.report) is (bytes_hold d.report (omega (arith, (steps_are_few B choice soft limit buffer report).1)) (answer_is_marked B choice soft limit buffer report) (answer_is_near B choice soft limit buffer report))
+    let answered : number d ≡ 0 = omega (arith, returned.answer, done) in
+    let is : new_report ≡ report_bytes (reported d) = returned.report_is ∙ answer_is_reported report d answered in
+    subst⁻¹ (λ (x : List ℕ). Holds x (reported d)) is (bytes_hold (reported d) (omega (arith, (steps_are_few B choice soft limit buffer report).1)) (answer_is_marked B choice soft limit buffer report) (answer_is_near B choice soft limit buffer report))

@@ -15,13 +15,14 @@ use Rattle.concatenated.specs.Outer.{RowDecoder}
 use Rattle.concatenated.specs.OuterCode.{short_outer}
 use Rattle.concatenated.specs.Readers.{short_reader}
 use Rattle.concatenated.specs.Decode.{Reader, Level, State, going, stopped, count, steps, row_off, decoded_row, settle, onward, run, outcome, decoded}
-use Rattle.page.specs.Outcomes.{refused_page, outcome_of, Buffer}
-use Rattle.page.specs.declared.PageOutcome.{PageOutcome}
+use Rattle.page.specs.Outcomes.{outcome_of, Buffer, PageOutcome, report as reported}
 use Rattle.readings.proofs.RowReading.{count_within_the_limit}
+use Rattle.concatenated.proofs.Readings.{short_readers_read_words}
 use Rattle.concatenated.proofs.SoftPages.{as_many_columns}
 use Rattle.store_pages.specs.Pages.{decoded_page}
 use Rattle.station.specs.PageReturned.{have_room, page_answer}
 use Rattle.store_pages.proofs.Asked.{every_way}
+use Rattle.questions.specs.Answer.{refused as refused_by}
 
 row_off_within : (S : Shape) (i : ℕ) (r : List ℕ) (cs : List (List ℕ)) → length (row_off S i r cs) ≤ length cs
 unfolding row_off
@@ -55,23 +56,23 @@ module _ (S : Shape) (outer : RowDecoder) (read : Reader) (limit : ℕ) (few : (
   run_within zero h = (wide, omega arith)
   run_within (suc i) h = onward_within i h (run S outer read page i) (run_within i (omega arith))
 
-  outcome_within : (k : ℕ) → k ≤ 4 → (x : State) → Within limit k x → (outcome_of (outcome x)).report.steps ≤ 252 * limit
+  outcome_within : (k : ℕ) → k ≤ 4 → (x : State) → Within limit k x → (reported (outcome_of (outcome x))).steps ≤ 252 * limit
   unfolding outcome outcome_of
   outcome_within k h (going cs ls n) w = omega (arith, w.1, mul-le-mul_left limit h)
   outcome_within k h (stopped l) w = omega arith
 
-  decoded_within : levels S ≤ 4 → (outcome_of (decoded S outer read page)).report.steps ≤ 252 * limit
+  decoded_within : levels S ≤ 4 → (reported (outcome_of (decoded S outer read page))).steps ≤ 252 * limit
   unfolding decoded
   decoded_within h = outcome_within (levels S) h (run S outer read page (levels S)) (run_within (levels S) (omega arith))
 
 -- of an allowed limit, up to 2000, at most 504000
 abbrev pub FewSteps : ℕ → PageOutcome → Type 0
-FewSteps limit o = (o.report.steps ≤ 252 * limit) × (o.report.steps ≤ 504000)
+FewSteps limit o = ((reported o).steps ≤ 252 * limit) × ((reported o).steps ≤ 504000)
 
 -- 01: "all counts summed, a spent column counting the limit": 63 columns at four levels, the limit each
 pub steps_are_few : (B : Buffer) (choice : Choice) (soft : List ℕ) (limit : ℕ) (buffer report : List ℕ) → FewSteps limit (page_answer B choice soft limit buffer report)
 steps_are_few B choice soft limit buffer report =
-    every_way choice soft limit (have_room B buffer report) (FewSteps limit) refused_page (outcome_of (decoded_page choice supercode soft limit)) (λ n p some few near. (omega arith, omega arith)) (λ most.
-    let few : (outcome_of (decoded_page choice supercode soft limit)).report.steps ≤ 252 * limit =
-    decoded_within short short_outer (short_reader choice supercode limit) limit (λ i c h. count_within_the_limit choice supercode limit i h c) (soft_columns short_page soft) (omega (arith, as_many_columns short_page soft)) (omega arith)
+    every_way choice soft limit (have_room B buffer report) (FewSteps limit) refused_by (outcome_of (decoded_page choice supercode soft limit)) (λ n p some few near. (omega arith, omega arith)) (λ most.
+    let few : (reported (outcome_of (decoded_page choice supercode soft limit))).steps ≤ 252 * limit =
+    decoded_within short short_outer (short_reader choice supercode limit) limit (λ i c h. count_within_the_limit limit i h (short_reader choice supercode limit) (short_readers_read_words choice supercode limit) c) (soft_columns short_page soft) (omega (arith, as_many_columns short_page soft)) (omega arith)
     in (few, omega (arith, few, most)))

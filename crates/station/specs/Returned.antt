@@ -1,7 +1,6 @@
 -- For the code's contracts: what an entry for C returns and leaves. Assumes nothing.
 use Rattle.std.specs.Prelude.{List, ◌≡◌, ℕ, ◌+◌, ◌*◌}
-use Rattle.questions.specs.Outcome.{number, place, after}
-use Rattle.questions.specs.declared.Outcome.{Outcome}
+use Rattle.questions.specs.Answer.{number, place, after, Outcome}
 
 -- a number and its place as one number; 0 is success
 abbrev pub returned : ℕ → ℕ → ℕ

@@ -10,31 +10,32 @@ ghost use Rattle.concatenated.specs.Written.{written_page};
 ghost use Rattle.concatenated.specs.OuterCode.{short_encoder};
 ghost use Rattle.store_pages.specs.Pages.{encode_page_answer, default_limit};
 ghost use Rattle.store_dumps.specs.Dumps.{read_answer};
-ghost use Rattle.questions.specs.Outcome.{number, place};
+ghost use Rattle.questions.specs.Answer.{number, place};
+ghost use Rattle.questions.specs.Number.{number_of};
 ghost use Rattle.station.specs.Returned.{returned, Returned};
 ghost use Rattle.station.specs.Report.{mark_bytes, steps_and_totals, low_bytes};
 ghost use Rattle.station.specs.PageReturned.{own_lengths, report_after, PageDecodedForC, PageAskedForC, ListDecodedForC};
 ghost use Rattle.store_pages.specs.Committing.{commit_answer, held_bytes};
 
-use page::{PageOutcome, Report};
-use questions::Outcome;
+use page::Report;
+use questions::refusal::{Question, Refusal};
 use store_pages::DEFAULT_LIMIT;
 
-// A number and a place as one number.
-fn returned_number(number: u64, place: u64) -> u64
-    requires { (number ≤ 14) × (place ≤ 1890) }
-    ensures { result ≡ returned number place }
+// A refusal's number and place as one number.
+fn returned_refusal(refusal: Refusal) -> u64
+    requires { (number_of refusal.question ≤ 14) × (refusal.place ≤ 1890) }
+    ensures { result ≡ returned (number_of refusal.question) refusal.place }
 {
-    number + 256 * place
+    refusal.question.number() + 256 * refusal.place
 }
 
-fn returned_outcome(outcome: Outcome) -> u64
+fn returned_outcome(outcome: Result<(), Refusal>) -> u64
     requires { (number outcome ≤ 14) × (place outcome ≤ 1890) }
     ensures { result ≡ returned (number outcome) (place outcome) }
 {
     match outcome {
-        Outcome::Done => returned_number(0, 0),
-        Outcome::Refused(n, p) => returned_number(n, p),
+        Ok(()) => 0,
+        Err(refusal) => returned_refusal(refusal),
     }
 }
 
@@ -58,22 +59,11 @@ pub extern "C" fn station_read_dump(dump: &[u8], soft: &mut [u8]) -> u64
 fn steps_and_totals(report: Report) -> [u8; 12]
     ensures { result ≡ steps_and_totals report }
 {
-    let n = report.steps;
+    let [_, _, _, _, n3, n2, n1, n0] = report.steps.to_be_bytes();
     let c = report.changed;
     let e = report.erased;
     [
-        ((n >> 24) % 256) as u8,
-        ((n >> 16) % 256) as u8,
-        ((n >> 8) % 256) as u8,
-        (n % 256) as u8,
-        c[0],
-        e[0],
-        c[1],
-        e[1],
-        c[2],
-        e[2],
-        c[3],
-        e[3],
+        n3, n2, n1, n0, c[0], e[0], c[1], e[1], c[2], e[2], c[3], e[3],
     ]
 }
 
@@ -82,11 +72,7 @@ fn write_mark(mark: u64, out: &mut [u8])
     requires { length out.old ≡ 8 }
     ensures { out.new ≡ digits 256 8 mark }
 {
-    let mut k: usize = 0;
-    while k < 8 {
-        out[k] = ((mark >> (8 * (7 - k))) % 256) as u8;
-        k += 1;
-    }
+    out.copy_from_slice(&mark.to_be_bytes());
 }
 
 // The report's next 64 bytes: each level's mark of the changed columns, then that of the erased ones.
@@ -94,14 +80,12 @@ fn write_marks(changed: [u64; 4], erased: [u64; 4], out: &mut [u8])
     requires { length out.old ≡ 76 }
     ensures { out.new ≡ take 12 out.old ++ mark_bytes 4 changed erased }
 {
-    let mut level: usize = 0;
-    while level < 4 {
+    for level in 0..4 {
         let first = 12 + 16 * level;
         let second = first + 8;
         let end = second + 8;
         write_mark(changed[level], &mut out[first..second]);
         write_mark(erased[level], &mut out[second..end]);
-        level += 1;
     }
 }
 
@@ -110,43 +94,35 @@ fn write_low(low: i16, out: &mut [u8])
     requires { length out.old ≡ 2 }
     ensures { out.new ≡ low_bytes low }
 {
-    let bits = packing::sixteen_bits(low);
-    out[0] = ((bits >> 8) % 256) as u8;
-    out[1] = (bits % 256) as u8;
+    out.copy_from_slice(&low.cast_unsigned().to_be_bytes());
 }
 
-// The number of the first no to the lengths that a page entry asks about itself: 1 for the soft page, 2 for the report, 0 for none.
-fn lengths_asked(soft: usize, report: usize) -> u64
+// The lengths that a page entry asks about itself: the soft page's and the report's.
+fn lengths_asked(soft: usize, report: usize) -> Result<(), Refusal>
     ensures { result ≡ own_lengths soft report }
 {
-    if soft != 1890 {
-        return 1;
-    }
-    if report != 78 {
-        return 2;
-    }
-    0
+    questions::ask(soft == 1890, Question::InputLength, 0)?;
+    questions::ask(report == 78, Question::OutputLength, 0)
 }
 
 // Writes the report of an answered page, and returns the number and place of the outcome.
-fn returned_page(outcome: PageOutcome, report: &mut [u8]) -> u64
-    requires { (outcome.number ≤ 14) × (outcome.place ≤ 1890) × (length report.old ≡ 78) }
-    ensures { (result ≡ returned outcome.number outcome.place) × (report.new ≡ report_after report.old outcome) }
+fn returned_page(outcome: Result<Report, Refusal>, report: &mut [u8]) -> u64
+    requires { (number outcome ≤ 14) × (place outcome ≤ 1890) × (length report.old ≡ 78) }
+    ensures { (result ≡ returned (number outcome) (place outcome)) × (report.new ≡ report_after report.old outcome) }
 {
-    let number = outcome.number;
-    let place = outcome.place;
-    if number != 0 {
-        return returned_number(number, place);
+    match outcome {
+        Ok(told) => {
+            let changed = told.changed_marks;
+            let erased = told.erased_marks;
+            let low = told.low;
+            let front = steps_and_totals(told);
+            report[0..12].copy_from_slice(&front);
+            write_marks(changed, erased, &mut report[0..76]);
+            write_low(low, &mut report[76..78]);
+            0
+        }
+        Err(refusal) => returned_refusal(refusal),
     }
-    let told = outcome.report;
-    let changed = told.changed_marks;
-    let erased = told.erased_marks;
-    let low = told.low;
-    let front = steps_and_totals(told);
-    report[0..12].copy_from_slice(&front);
-    write_marks(changed, erased, &mut report[0..76]);
-    write_low(low, &mut report[76..78]);
-    returned_number(number, place)
 }
 
 // Decodes a soft page of 1,890 values, by the supercode search with the given limit, into `data`, of 150 bytes, and `report`, of 78. Refused by 1, 2, 4, 5 and 10, whose place is the level.
@@ -159,9 +135,8 @@ pub extern "C" fn station_decode_page_limit(
 ) -> u64
     ensures { PageDecodedForC soft.now limit «data».old report.old result «data».new report.new }
 {
-    let bad = lengths_asked(soft.len(), report.len());
-    if bad != 0 {
-        return returned_number(bad, 0);
+    if let Err(refusal) = lengths_asked(soft.len(), report.len()) {
+        return returned_refusal(refusal);
     }
     returned_page(store_pages::decode_page(soft, limit, data), report)
 }
@@ -185,9 +160,8 @@ pub extern "C" fn station_decode_page_list(
 ) -> u64
     ensures { ListDecodedForC threshold soft.now limit «data».old report.old result «data».new report.new }
 {
-    let bad = lengths_asked(soft.len(), report.len());
-    if bad != 0 {
-        return returned_number(bad, 0);
+    if let Err(refusal) = lengths_asked(soft.len(), report.len()) {
+        return returned_refusal(refusal);
     }
     returned_page(
         store_pages::decode_page_list(soft, limit, threshold, data),
@@ -205,9 +179,8 @@ pub extern "C" fn station_ask_page_limit(
 ) -> u64
     ensures { PageAskedForC soft.now limit symbols.old report.old result symbols.new report.new }
 {
-    let bad = lengths_asked(soft.len(), report.len());
-    if bad != 0 {
-        return returned_number(bad, 0);
+    if let Err(refusal) = lengths_asked(soft.len(), report.len()) {
+        return returned_refusal(refusal);
     }
     returned_page(store_pages::ask_page(soft, limit, symbols), report)
 }

@@ -21,12 +21,15 @@ use Rattle.trellis.specs.Order.{number as column_of, sum}
 use Rattle.trellis.specs.Demand.{supercode, AheadOfAll, Counted}
 use Rattle.trellis.specs.Trellis.{WordFound}
 use Rattle.trellis.specs.TwoWords.{off, searched_by}
+use Rattle.std.specs.Prelude.{Ok, Err}
 use Rattle.questions.specs.Questions.{first_above}
 use Rattle.questions.proofs.EitherWay.{either}
 use Rattle.questions.proofs.FirstAbove.{below_first, first_is_above}
-use Rattle.searches.specs.Searches.{number, Answered, Allowed, outcome_answer, search_answer}
-use Rattle.searches.specs.declared.SearchAnswer.{SearchAnswer}
-use Rattle.searches.specs.declared.SearchAnswer.TheVariants.{Found, Refused}
+use Rattle.questions.specs.Answer.{number, refused as refused_by}
+use Rattle.questions.specs.Number.{number_of}
+use Rattle.questions.specs.declared.refusal.Question.{Question}
+use Rattle.questions.specs.declared.refusal.Question.TheVariants.{Level, Limit, Range, Bytes, Spent}
+use Rattle.searches.specs.Searches.{SearchAnswer, found, Answered, Allowed, outcome_answer, search_answer}
 use Rattle.store_searches.proofs.Calls.{call_answers_within_the_limit, call_refuses_above_the_limit}
 use Rattle.store_batches.specs.declared.Job.{Job}
 use Rattle.store_batches.specs.Jobs.{column_from, job_answer, noted, done_job}
@@ -44,8 +47,8 @@ module _ (soft : List ℕ) (limit : ℕ) (job : Job) where
   due = search_answer off supercode job.level column limit
 
   -- a refusal as it is noted
-  refused : (n p : ℕ) → job_answer soft limit job ≡ Refused n p → RefusedBy n p job (done_job soft limit job)
-  refused n p e = record {
+  refused : (q : Question) (p : ℕ) → job_answer soft limit job ≡ refused_by q p → RefusedBy (number_of q) p job (done_job soft limit job)
+  refused q p e = record {
     number = ap (λ (a : SearchAnswer). (noted job a).number) e;
     place = ap (λ (a : SearchAnswer). (noted job a).place) e;
     word = ap (λ (a : SearchAnswer). (noted job a).word) e;
@@ -60,12 +63,12 @@ module _ (soft : List ℕ) (limit : ℕ) (job : Job) where
   level_and_first_stay = go (job_answer soft limit job)
     where
       go : (a : SearchAnswer) → ((noted job a).level ≡ job.level) × ((noted job a).first ≡ job.first)
-      go (Found w c z) = (refl, refl)
-      go (Refused n p) = (refl, refl)
+      go (Ok f) = (refl, refl)
+      go (Err r) = (refl, refl)
 
   -- ---- 12
   pub job_is_refused_by_12_outside : length soft < job.first + 30 → RefusedBy 12 0 job (done_job soft limit job)
-  job_is_refused_by_12_outside out = refused 12 0 (rw (lt-leb _ _ out) refl)
+  job_is_refused_by_12_outside out = refused Bytes 0 (rw (lt-leb _ _ out) refl)
 
   module _ (inside : job.first + 30 ≤ length soft) where
     answers : job_answer soft limit job ≡ due
@@ -99,23 +102,23 @@ module _ (soft : List ℕ) (limit : ℕ) (job : Job) where
 
     -- "a bad one is noted in every job that 12 and 3 let through"
     pub bad_limit_is_noted : job.level < 4 → (1 ≤ limit → limit ≤ 2000 → ⊥) → RefusedBy 4 0 job (done_job soft limit job)
-    bad_limit_is_noted level bad = refused 4 0 (answers ∙ go (dec_le 1 limit) (dec_le limit 2000))
+    bad_limit_is_noted level bad = refused Limit 0 (answers ∙ go (dec_le 1 limit) (dec_le limit 2000))
       where
-        go : Dec (1 ≤ limit) → Dec (limit ≤ 2000) → due ≡ Refused 4 0
+        go : Dec (1 ≤ limit) → Dec (limit ≤ 2000) → due ≡ refused_by Limit 0
         go (no none) most = rw (eq-eqb _ _ column_is_long, lt-ltb _ _ level, lt-leb 1 limit (omega arith)) refl
         go (yes some) (no many) = rw (eq-eqb _ _ column_is_long, lt-ltb _ _ level, le-leb 1 limit some, lt-leb limit 2000 (omega arith)) refl
         go (yes some) (yes most) = absurd (bad some most)
 
     -- 3 comes before it
     pub bad_level_is_noted : 4 ≤ job.level → RefusedBy 3 0 job (done_job soft limit job)
-    bad_level_is_noted level = refused 3 0 (answers ∙ rw (eq-eqb _ _ column_is_long, le-ltb _ _ level) refl)
+    bad_level_is_noted level = refused Level 0 (answers ∙ rw (eq-eqb _ _ column_is_long, le-ltb _ _ level) refl)
 
     -- 5: the first value above 7, its place counted in the job's column
     pub bad_value_is_noted : job.level < 4 → 1 ≤ limit → limit ≤ 2000 → (k : ℕ) → k < 30 → 7 < get_or soft (job.first + k) 0 → (p : ℕ) × FirstBad soft job.first p × RefusedBy 5 p job (done_job soft limit job)
     bad_value_is_noted level some most k l bad = (
       p,
       record { inside = in_column; bad = subst (λ (v : ℕ). 7 < v) (value_at p in_column) (first_is_above column 7 (omega (arith, column_is_long, in_column))); before = λ j h. subst (λ (v : ℕ). v ≤ 7) (value_at j (omega (arith, in_column))) (below_first column 7 j h) },
-      refused 5 p (answers ∙ rw (eq-eqb _ _ column_is_long, lt-ltb _ _ level, le-leb _ _ some, le-leb _ _ most, lt-leb 30 p in_column) refl),
+      refused Range p (answers ∙ rw (eq-eqb _ _ column_is_long, lt-ltb _ _ level, le-leb _ _ some, le-leb _ _ most, lt-leb 30 p in_column) refl),
     )
       where
         p : ℕ
@@ -134,19 +137,19 @@ module _ (soft : List ℕ) (limit : ℕ) (job : Job) where
       abbrev low_of : Path → ℤ
       low_of = low_point (sum (level_values job.level) column)
 
-      pub job_answers_within_the_limit : length ps ≤ limit → done_job soft limit job ≡ noted job (Found (column_of w) (length ps) (low_of w))
+      pub job_answers_within_the_limit : length ps ≤ limit → done_job soft limit job ≡ noted job (found (column_of w) (length ps) (low_of w))
       job_answers_within_the_limit l = ap (noted job) (answers ∙ (call_answers_within_the_limit supercode job.level column limit allowed w best ps listed l).0)
 
       pub job_is_9_above_the_limit : limit < length ps → RefusedBy 9 0 job (done_job soft limit job)
-      job_is_9_above_the_limit l = refused 9 0 (answers ∙ (call_refuses_above_the_limit supercode job.level column limit allowed w best ps listed l).0)
+      job_is_9_above_the_limit l = refused Spent 0 (answers ∙ (call_refuses_above_the_limit supercode job.level column limit allowed w best ps listed l).0)
 
   -- 12 is noted exactly where the 30 bytes do not lie in the buffer
   pub job_is_12_exactly_outside : ((done_job soft limit job).number ≡ 12) ↔ (length soft < job.first + 30)
   job_is_12_exactly_outside = (λ twelve. go twelve (dec_le (job.first + 30) (length soft)), λ out. (job_is_refused_by_12_outside out).number)
     where
       number_is : (a : SearchAnswer) → (noted job a).number ≡ number a
-      number_is (Found w c z) = refl
-      number_is (Refused n p) = refl
+      number_is (Ok f) = refl
+      number_is (Err r) = refl
 
       go : (done_job soft limit job).number ≡ 12 → Dec (job.first + 30 ≤ length soft) → length soft < job.first + 30
       go twelve (no out) = omega arith

@@ -1,3 +1,1 @@
-pub mod Jobs
 pub mod Batches
-pub mod Upto

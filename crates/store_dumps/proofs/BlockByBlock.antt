@@ -7,8 +7,7 @@ use native.Mathlib.Numerals.{add-one}
 use native.Mathlib.Omega.{arith}
 use borrow.Author.Count.{below_more}
 use Rattle.store_dumps.specs.Dumps.{ask_each}
-use Rattle.questions.specs.declared.Outcome.{Outcome}
-use Rattle.questions.specs.declared.Outcome.TheVariants.{Done}
+use Rattle.questions.specs.Answer.{Outcome, done}
 
 module _ (question : ℕ → Outcome → Outcome) where
   -- all are answered yes: what follows is asked
@@ -29,8 +28,8 @@ module _ (question : ℕ → Outcome → Outcome) where
       (eq-or-lt_of_le (omega arith))
 
   -- nothing is refused: every block was answered yes, and nothing that follows is refused
-  pub each_done : (Yes : ℕ → Type 0) → ((b : ℕ) (next : Outcome) → question b next ≡ Done → Yes b × (next ≡ Done)) → (n : ℕ) (next : Outcome) → ask_each question n next ≡ Done
-      → ((b : ℕ) → b < n → Yes b) × (next ≡ Done)
+  pub each_done : (Yes : ℕ → Type 0) → ((b : ℕ) (next : Outcome) → question b next ≡ done → Yes b × (next ≡ done)) → (n : ℕ) (next : Outcome) → ask_each question n next ≡ done
+      → ((b : ℕ) → b < n → Yes b) × (next ≡ done)
   unfolding ask_each
   each_done Yes told zero next e = (λ b h. absurd (omega arith), e)
   each_done Yes told (suc n) next e =

@@ -13,8 +13,7 @@ use Rattle.trellis.specs.Values.{level_values}
 use Rattle.trellis.specs.Order.{number as column_of, sum}
 use Rattle.trellis.specs.Demand.{supercode, AheadOfAll, Counted}
 use Rattle.trellis.specs.TwoWords.{off}
-use Rattle.searches.specs.Searches.{number, Allowed, search_answer}
-use Rattle.searches.specs.declared.SearchAnswer.TheVariants.{Found}
+use Rattle.searches.specs.Searches.{found, number, Allowed, search_answer}
 use Rattle.store_searches.proofs.Calls.{call_answers_within_the_limit, call_is_9_exactly_above_the_limit}
 use Rattle.held.specs.Entry.{nothing_held}
 use Rattle.held.specs.State.{Stopped}
@@ -62,7 +61,7 @@ module _ (s : Store) (m : MadeStore s) (name : ℕ) (low : name < 4) (soft : Lis
         ∙ taken_up_is_one_search (names_of s) name soft level summed limit is low some most
 
     -- w is the codeword ahead of all others, and ps lists the paths that are prefixes of it or ahead of it
-    pub taken_up_answers_within_the_sum : length ps ≤ summed + limit → r.answer ≡ Found (column_of w) (length ps) (low_point (sum (level_values level) soft) w)
+    pub taken_up_answers_within_the_sum : length ps ≤ summed + limit → r.answer ≡ found (column_of w) (length ps) (low_point (sum (level_values level) soft) w)
     taken_up_answers_within_the_sum l = answer_is ∙ (call_answers_within_the_limit supercode level soft (summed + limit) kept_is_allowed w best ps listed l).0
 
     pub taken_up_is_9_exactly_above_the_sum : (number r.answer ≡ 9) ↔ (summed + limit < length ps)

@@ -12,9 +12,12 @@ use borrow.Author.Tests.{eqb-true, eqb-false, ne_eqb, lt-ltb, le-ltb, le-leb}
 use Rattle.trellis.specs.Demand.{supercode}
 use Rattle.trellis.specs.TwoWords.{off}
 use Rattle.questions.specs.Questions.{ask}
-use Rattle.searches.specs.Searches.{number, place, search_answer}
-use Rattle.searches.specs.declared.SearchAnswer.{SearchAnswer}
-use Rattle.searches.specs.declared.SearchAnswer.TheVariants.{Found, Refused}
+use Rattle.std.specs.Prelude.{Ok, Err}
+use Rattle.questions.specs.Answer.{refused}
+use Rattle.questions.specs.Number.{number_of}
+use Rattle.questions.specs.declared.refusal.Question.{Question}
+use Rattle.questions.specs.declared.refusal.Question.TheVariants.{InputLength, OutputLength, Level, Limit, Range, Word, FixedBytes, Check, Spent, Reach, Threshold, Bytes, EmptyStack, OuterWord, Lines, Name, Held, SummedLimit}
+use Rattle.searches.specs.Searches.{SearchAnswer, number, place, search_answer}
 use Rattle.held.specs.Entry.{nothing_held}
 use Rattle.store_held.specs.Names.{Kept, free, kept, Names, none_kept, under, hold_answer, names_held, ask_kept, kept_answer, take_answer, longer, names_taken}
 use Rattle.store_held.specs.Calls.{empty_store, entry, kept_of, names_of, MadeStore, HoldCall, Left, TakeCall}
@@ -32,7 +35,7 @@ made_under s name m r limit c = go (dec_le 4 name)
   where
     go : Dec (4 ≤ name) → r.answer ≡ take_answer (names_of s) name limit
     go (no l) = (c.answer (m.each name (omega arith))).answer
-    go (yes l) = c.asked 16 0 (rw (le-ltb name 4 l) refl) ∙ sym (rw (le-ltb name 4 l) refl)
+    go (yes l) = c.asked Name 0 (rw (le-ltb name 4 l) refl) ∙ sym (rw (le-ltb name 4 l) refl)
 
 module _ (s : Store) (m : MadeStore s) (r : HeldAnswer) where
   pub answers_by_the_rules : (c : Call) → Gave s c r → r.answer ≡ answer_to (names_of s) c
@@ -98,11 +101,11 @@ module _ (name : ℕ) (soft : List ℕ) (level : ℕ) where
       same = ap (kept soft level) (omega arith)
 
       go : (a : SearchAnswer) → Spares name (hold other column at limit) a → under (names_held a names other column at limit) name ≡ kept soft level (summed + 0)
-      go (Found w c z) spared = e ∙ same
-      go (Refused n p) spared = by (eqb n 9) refl
+      go (Ok f) spared = e ∙ same
+      go (Err r) spared = by (eqb (number_of r.question) 9) refl
         where
-          by : (b : Bool) → eqb n 9 ≡ b → under (cond b (set names other (kept column at limit)) names) name ≡ kept soft level (summed + 0)
-          by true nine = get_or-set_other names other name (kept column at limit) _ (λ q. spared (sym q) (eqb-true n 9 nine)) ∙ e ∙ same
+          by : (b : Bool) → eqb (number_of r.question) 9 ≡ b → under (cond b (set names other (kept column at limit)) names) name ≡ kept soft level (summed + 0)
+          by true nine = get_or-set_other names other name (kept column at limit) _ (λ q. spared (sym q) (eqb-true _ 9 nine)) ∙ e ∙ same
           by false nine = e ∙ same
   spared_once names summed e (take other limit) spares = go (take_answer names other limit) spares
     where
@@ -110,10 +113,10 @@ module _ (name : ℕ) (soft : List ℕ) (level : ℕ) where
       same = ap (kept soft level) (omega arith)
 
       go : (a : SearchAnswer) → Spares name (take other limit) a → under (names_taken a names other limit) name ≡ kept soft level (summed + added_by name (take other limit) a)
-      go (Found w c z) spared =
+      go (Ok f) spared =
           let away : other ≡ name → ⊥ = λ q. spared q refl in
           get_or-set_other names other name free _ (λ q. away (sym q)) ∙ e ∙ same ∙ ap (λ (b : Bool). kept soft level (summed + cond (b && false) limit 0)) (sym (ne_eqb other name away))
-      go (Refused n p) spared = by (eqb n 9) (eqb other name) refl
+      go (Err r) spared = by (eqb (number_of r.question) 9) (eqb other name) refl
         where
           by : (b c : Bool) → eqb other name ≡ c → under (cond b (set names other (longer (under names other) limit)) names) name ≡ kept soft level (summed + cond (c && b) limit 0)
           by true true q =
@@ -137,7 +140,7 @@ module _ (name : ℕ) (soft : List ℕ) (level : ℕ) where
 module _ (s : Store) (m : MadeStore s) (name : ℕ) (low : name < 4) (soft : List ℕ) (level : ℕ) where
   -- A search that was held and then taken up, as often as it was spent again, whatever happened under other names between: the next take-up answers as one supercode search with the summed limit,
   -- the 9 too.
-  pub taken_up_is_one_search_with_the_sum : (first : ℕ) (held : HeldAnswer) → HoldCall s name soft level first held → held.answer ≡ Refused 9 0
+  pub taken_up_is_one_search_with_the_sum : (first : ℕ) (held : HeldAnswer) → HoldCall s name soft level first held → held.answer ≡ refused Spent 0
       → (calls : List Call) (given : List HeldAnswer) → Story held.store calls given → Spared name (names_of held.store) calls
       → (limit : ℕ) (r : HeldAnswer) → TakeCall (left_by held.store given) name limit r → 1 ≤ limit → first + added name (names_of held.store) calls + limit ≤ 2000
       → r.answer ≡ search_answer off supercode level soft (first + added name (names_of held.store) calls + limit)
@@ -158,7 +161,7 @@ alike_kept_answers_alike : (s s' : Store) → MadeStore s → MadeStore s' → (
     → (r r' : HeldAnswer) → TakeCall s name limit r → TakeCall s' name limit r' → r.answer ≡ r'.answer
 alike_kept_answers_alike s s' m m' name limit same r r' t t' =
     answers_by_the_rules s m r (take name limit) t
-    ∙ ap (λ (k : Kept). ask (ltb name 4) (Refused 16 0) (ask_kept k limit Refused (kept_answer k limit))) same
+    ∙ ap (λ (k : Kept). ask (ltb name 4) (refused Name 0) (ask_kept k limit refused (kept_answer k limit))) same
     ∙ sym (answers_by_the_rules s' m' r' (take name limit) t')
 
 -- Two stories from the empty store that give a name the same column, level and summed limit answer alike.
@@ -171,6 +174,27 @@ stories_answer_alike calls calls' given given' story story' name limit same =
     alike_kept_answers_alike (left_by empty_store given) (left_by empty_store given') one.2 other.2 name limit
     (ap (λ (n : Names). under n name) one.1 ∙ same ∙ ap (λ (n : Names). under n name) (sym other.1))
 
+-- 9 is the number of one question
+nine_is_spent : (q : Question) → number_of q ≡ 9 → q ≡ Spent
+nine_is_spent InputLength e = absurd (omega (arith, e))
+nine_is_spent OutputLength e = absurd (omega (arith, e))
+nine_is_spent Level e = absurd (omega (arith, e))
+nine_is_spent Limit e = absurd (omega (arith, e))
+nine_is_spent Range e = absurd (omega (arith, e))
+nine_is_spent Word e = absurd (omega (arith, e))
+nine_is_spent FixedBytes e = absurd (omega (arith, e))
+nine_is_spent Check e = absurd (omega (arith, e))
+nine_is_spent Spent e = refl
+nine_is_spent Reach e = absurd (omega (arith, e))
+nine_is_spent Threshold e = absurd (omega (arith, e))
+nine_is_spent Bytes e = absurd (omega (arith, e))
+nine_is_spent EmptyStack e = absurd (omega (arith, e))
+nine_is_spent OuterWord e = absurd (omega (arith, e))
+nine_is_spent Lines e = absurd (omega (arith, e))
+nine_is_spent Name e = absurd (omega (arith, e))
+nine_is_spent Held e = absurd (omega (arith, e))
+nine_is_spent SummedLimit e = absurd (omega (arith, e))
+
 -- no other name changes, by any call on any store
 pub others_stay : (s : Store) (c : Call) (r : HeldAnswer) → Gave s c r → (k : ℕ) → (k ≡ name_of c → ⊥) → entry r.store k ≡ entry s k
 others_stay s (hold name soft level limit) r g k away = go r.answer refl
@@ -179,22 +203,22 @@ others_stay s (hold name soft level limit) r g k away = go r.answer refl
     stays e = ap (λ (n : Store). entry n k) e
 
     go : (a : SearchAnswer) → r.answer ≡ a → entry r.store k ≡ entry s k
-    go (Found w c z) e = stays (g.else (λ q. found_is_not_refused (sym e ∙ q)))
-    go (Refused n p) e = by (eqb n 9) (eqb p 0) refl refl
+    go (Ok f) e = stays (g.else (λ q. found_is_not_refused (sym e ∙ q)))
+    go (Err t) e = by (eqb (number_of t.question) 9) (eqb t.place 0) refl refl
       where
-        by : (a b : Bool) → eqb n 9 ≡ a → eqb p 0 ≡ b → entry r.store k ≡ entry s k
+        by : (a b : Bool) → eqb (number_of t.question) 9 ≡ a → eqb t.place 0 ≡ b → entry r.store k ≡ entry s k
         by true true i j =
-            let is : Refused n p ≡ Refused 9 0 = ap₂ Refused (eqb-true n 9 i) (eqb-true p 0 j) in
+            let is : ◌≡◌ {A = SearchAnswer} (Err t) (refused Spent 0) = ap₂ (λ (q : Question) (p : ℕ). refused q p) (nine_is_spent t.question (eqb-true _ 9 i)) (eqb-true t.place 0 j) in
             let put = g.nine (e ∙ is) in
             ap (λ (n : Store). entry n k) put.2 ∙ other_entry s name k put.0 away
-        by false b i j = stays (g.else (λ q. eqb-false n 9 i (ap number (sym e ∙ q))))
-        by true false i j = stays (g.else (λ q. eqb-false p 0 j (ap place (sym e ∙ q))))
+        by false b i j = stays (g.else (λ q. eqb-false _ 9 i (ap number (sym e ∙ q))))
+        by true false i j = stays (g.else (λ q. eqb-false t.place 0 j (ap place (sym e ∙ q))))
 others_stay s (take name limit) r g k away = go r.answer g.left
   where
     go : (a : SearchAnswer) → Left a s name r.store → entry r.store k ≡ entry s k
-    go (Found w c z) l = ap (λ (n : Store). entry n k) l ∙ other_entry s name k nothing_held away
-    go (Refused n p) l = by (eqb n 9) refl
+    go (Ok f) l = ap (λ (n : Store). entry n k) l ∙ other_entry s name k nothing_held away
+    go (Err t) l = by (eqb (number_of t.question) 9) refl
       where
-        by : (b : Bool) → eqb n 9 ≡ b → entry r.store k ≡ entry s k
-        by true e = let put = l.0 (eqb-true n 9 e) in ap (λ (n : Store). entry n k) put.1 ∙ other_entry s name k put.0 away
-        by false e = ap (λ (n : Store). entry n k) (l.1 (eqb-false n 9 e))
+        by : (b : Bool) → eqb (number_of t.question) 9 ≡ b → entry r.store k ≡ entry s k
+        by true e = let put = l.0 (eqb-true _ 9 e) in ap (λ (n : Store). entry n k) put.1 ∙ other_entry s name k put.0 away
+        by false e = ap (λ (n : Store). entry n k) (l.1 (eqb-false _ 9 e))

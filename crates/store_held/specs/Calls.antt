@@ -1,9 +1,10 @@
 -- 02, point 13: the store, stores that the calls made, and what the calls promise. Assumes nothing.
-use Rattle.std.specs.Prelude.{cond, List, [], map, ◌⊎◌, ◌≡◌, ℕ, ◌<◌, ◌≤◌, eqb, pos, length, replicate, get_or, set}
-use Rattle.questions.specs.declared.Outcome.TheVariants.{Done, Refused as Asked}
-use Rattle.searches.specs.Searches.{Answered}
-use Rattle.searches.specs.declared.SearchAnswer.{SearchAnswer}
-use Rattle.searches.specs.declared.SearchAnswer.TheVariants.{Found, Refused}
+use Rattle.std.specs.Prelude.{cond, List, [], Ok, Err, map, ◌⊎◌, ◌≡◌, ℕ, ◌<◌, ◌≤◌, eqb, pos, length, replicate, get_or, set}
+use Rattle.questions.specs.Answer.{refused, done}
+use Rattle.questions.specs.Number.{number_of}
+use Rattle.questions.specs.declared.refusal.Question.{Question}
+use Rattle.questions.specs.declared.refusal.Question.TheVariants.{Spent}
+use Rattle.searches.specs.Searches.{SearchAnswer, Answered}
 use Rattle.held.specs.Entry.{nothing_held}
 use Rattle.held.specs.State.{Stopped}
 use Rattle.held.specs.declared.Held.{Held}
@@ -60,25 +61,27 @@ pub record MadeStore (s : Store) : Type 0 where
 pub record HoldCall (s : Store) (name : ℕ) (soft : List ℕ) (level limit : ℕ) (r : HeldAnswer) : Type 0 where
   pub answer : Answered (hold_answer name soft level limit) r.answer
   pub names : names_of r.store ≡ names_held r.answer (names_of s) name soft level limit
-  pub nine : r.answer ≡ Refused 9 0 → (h : Held) × Stopped h × (r.store ≡ with_entry s name h)
-  pub else : (r.answer ≡ Refused 9 0 → ⊥) → r.store ≡ s
+  pub nine : r.answer ≡ refused Spent 0 → (h : Held) × Stopped h × (r.store ≡ with_entry s name h)
+  pub else : (r.answer ≡ refused Spent 0 → ⊥) → r.store ≡ s
   pub made : MadeStore s → MadeStore r.store
 
 -- what is left of a store by an answer of taking up: a word frees the name, a 9 puts an entry under it, one that the calls made in the place of one that they made; any other number leaves the store as it was
 abbrev pub Left : SearchAnswer → Store → ℕ → Store → Type 0
-Left (Found w c z) s name new = new ≡ with_entry s name nothing_held
-Left (Refused n p) s name new = (n ≡ 9 → (h : Held) × (new ≡ with_entry s name h) × (Made (entry s name) → Made h)) × ((n ≡ 9 → ⊥) → new ≡ s)
+Left (Ok f) s name new = new ≡ with_entry s name nothing_held
+Left (Err r) s name new =
+    let n = number_of r.question in
+    (n ≡ 9 → (h : Held) × (new ≡ with_entry s name h) × (Made (entry s name) → Made h)) × ((n ≡ 9 → ⊥) → new ≡ s)
 
 -- what the answer is where all questions before 9 are answered yes, on any store: a word, 9, or 17 for an entry that no search can go on from
 abbrev pub Ended : SearchAnswer → Type 0
-Ended (Found w c z) = Unit {0}
-Ended (Refused n p) = ((n ≡ 9) ⊎ (n ≡ 17)) × (p ≡ 0)
+Ended (Ok f) = Unit {0}
+Ended (Err r) = ((number_of r.question ≡ 9) ⊎ (number_of r.question ≡ 17)) × (r.place ≡ 0)
 
 -- Taking up, on every store: the questions, what the names hold by the answer, and which bytes of the store may change. On a store of other making, which of the answers that `Ended` allows is left open.
 -- Where the calls made the entry, the answer is that of one search with the summed limit.
 pub record TakeCall (s : Store) (name limit : ℕ) (r : HeldAnswer) : Type 0 where
-  pub asked : (n p : ℕ) → ask_take (names_of s) name limit Asked Done ≡ Asked n p → r.answer ≡ Refused n p
-  pub ended : ask_take (names_of s) name limit Asked Done ≡ Done → Ended r.answer
+  pub asked : (q : Question) (p : ℕ) → ask_take (names_of s) name limit refused done ≡ refused q p → r.answer ≡ refused q p
+  pub ended : ask_take (names_of s) name limit refused done ≡ done → Ended r.answer
   pub names : names_of r.store ≡ names_taken r.answer (names_of s) name limit
   pub left : Left r.answer s name r.store
   pub answer : Made (entry s name) → Answered (take_answer (names_of s) name limit) r.answer

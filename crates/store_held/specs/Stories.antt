@@ -1,7 +1,6 @@
 -- 02, point 13: stories, calls one after the other, each on the store that the one before left. Assumes nothing.
 use Rattle.std.specs.Prelude.{cond, ◌&&◌, List, [], ◌∷◌, map, ◌≡◌, ℕ, ◌+◌, eqb}
-use Rattle.searches.specs.Searches.{number}
-use Rattle.searches.specs.declared.SearchAnswer.{SearchAnswer}
+use Rattle.searches.specs.Searches.{SearchAnswer, number}
 use Rattle.store_held.specs.Names.{Names, hold_answer, names_held, take_answer, names_taken}
 use Rattle.store_held.specs.Calls.{HoldCall, TakeCall}
 use Rattle.store_held.specs.declared.Store.{Store}

@@ -1,10 +1,11 @@
 -- What the checker accepts, which line it names, and what it answers besides: of the call's own answer. Assumes nothing.
-use mathlib.Core.Bool.{false}
+use mathlib.Core.Bool.{Bool, true, false}
 use mathlib.Core.List.{List, [], ◌∷◌, ◌++◌, map, map-append}
 use mathlib.Core.Logic.{◌↔◌, ◌⊎◌, inl, inr}
 use mathlib.Core.Path.{◌≡◌, refl, sym, ap, ◌∙◌, subst}
 use Prim.Native.Nat.{ℕ, suc, ◌+◌, ◌-◌, ◌≤◌, ◌<◌}
 use native.Mathlib.Omega.{arith}
+use borrow.Author.Rules.{rules}
 use lib.ListN.{length, get_or, length-map}
 use Rattle.column.specs.Shape.{short}
 use Rattle.paths.specs.Paths.{Path}
@@ -23,26 +24,21 @@ use Rattle.trellis.proofs.Demand.{trellis_sound, winner_is_ahead_of_all}
 use Rattle.trellis.proofs.Short.{searchable, answers_within_the_limit}
 use Rattle.checker.specs.Lines.{is_path, listing_of, FirstNumbersOf}
 use Rattle.checker.proofs.Lines.{AllFit, listing_length, numbers_are, are_numbers, first_lines, no_line_malformed, first_numbers_length}
-use Rattle.questions.specs.declared.Outcome.{Outcome}
-use Rattle.questions.specs.declared.Outcome.TheVariants.{Done}
-use Rattle.questions.specs.declared.Outcome.TheVariants as outcome
-use Rattle.store_listings.specs.Listings.{Allowed, ask_listing, verdict_answer, named_trellis, listing_answer, IsTheSequence, DiffersFirstAt}
-use Rattle.store_listings.specs.declared.ListingAnswer.{ListingAnswer}
-use Rattle.store_listings.specs.declared.ListingAnswer.TheVariants.{Accepted, Wrong, Refused}
+use Rattle.std.specs.Prelude.{Option, Ok, Err, is_ok}
+use Rattle.questions.specs.Answer.{Outcome, refused, done}
+use Rattle.questions.specs.declared.refusal.Refusal.{Refusal}
+use Rattle.store_listings.specs.Listings.{ListingAnswer, all_right, wrong_line, Allowed, ask_listing, verdict_answer, named_trellis, listing_answer, IsTheSequence, DiffersFirstAt}
 use Rattle.store_listings.proofs.Questions.{all_yes, ready, settled}
 
-accepted_is_no_refusal : (n p : ℕ) → Refused n p ≡ Accepted → ⊥
-accepted_is_no_refusal n p e = let z : ◌≡◌ {A = ℕ} 0 1 = cc e in absurd (omega arith)
+refusal_is_no_verdict : {r : Refusal} {v : Option ℕ} → ◌≡◌ {A = ListingAnswer} (Err r) (Ok v) → ⊥
+refusal_is_no_verdict e = let z : ◌≡◌ {A = Bool} false true = ap is_ok e in absurd (search rules)
 
-wrong_is_no_refusal : (k n p : ℕ) → Refused n p ≡ Wrong k → ⊥
-wrong_is_no_refusal k n p e = let z : ◌≡◌ {A = ℕ} 0 1 = cc e in absurd (omega arith)
-
-answer_is_accepted : (v : Verdict) → verdict_answer v ≡ Accepted → v ≡ accepted
+answer_is_accepted : (v : Verdict) → verdict_answer v ≡ all_right → v ≡ accepted
 unfolding verdict_answer
 answer_is_accepted accepted e = refl
 answer_is_accepted (wrong k) e = let z : ◌≡◌ {A = ℕ} 0 1 = cc e in absurd (omega arith)
 
-answer_is_wrong : (v : Verdict) (k : ℕ) → verdict_answer v ≡ Wrong k → v ≡ wrong k
+answer_is_wrong : (v : Verdict) (k : ℕ) → verdict_answer v ≡ wrong_line k → v ≡ wrong k
 unfolding verdict_answer
 answer_is_wrong accepted k e = let z : ◌≡◌ {A = ℕ} 0 1 = cc e in absurd (omega arith)
 answer_is_wrong (wrong j) k e = let same : j ≡ k = cc e in ap wrong same
@@ -68,44 +64,44 @@ module _ (s : Search) (i : ℕ) (soft : List ℕ) where
     -- ---- the answer is a verdict exactly if the questions are answered yes
 
     judged_if_allowed : Allowed i soft lengths bits → said ≡ verdict_answer verdict
-    judged_if_allowed allowed = all_yes i soft lengths bits allowed Refused (verdict_answer verdict)
+    judged_if_allowed allowed = all_yes i soft lengths bits allowed refused (verdict_answer verdict)
 
-    allowed_if_judged : (a : ListingAnswer) → ((n p : ℕ) → Refused n p ≡ a → ⊥) → said ≡ a → Allowed i soft lengths bits
-    allowed_if_judged a none e = go (ask_listing i soft lengths bits outcome.Refused Done) refl
+    allowed_if_judged : (v : Option ℕ) → said ≡ Ok v → Allowed i soft lengths bits
+    allowed_if_judged v e = go (ask_listing i soft lengths bits refused done) refl
       where
-        go : (o : Outcome) → ask_listing i soft lengths bits outcome.Refused Done ≡ o → Allowed i soft lengths bits
-        go Done d = ready i soft lengths bits d
-        go (outcome.Refused n p) d = absurd (none n p (sym (settled i soft lengths bits Refused (verdict_answer verdict) (outcome.Refused n p) (sym d)) ∙ e))
+        go : (o : Outcome) → ask_listing i soft lengths bits refused done ≡ o → Allowed i soft lengths bits
+        go (Ok x) d = ready i soft lengths bits d
+        go (Err r) d = absurd (refusal_is_no_verdict (sym (settled i soft lengths bits refused (verdict_answer verdict) (Err r) (sym d)) ∙ e))
 
     -- ---- 02: "accepts a listing exactly if it is the sequence of paths, from first to answer, that the named search .. takes on that column"
 
-    pub accepted_exactly : (said ≡ Accepted) ↔ IsTheSequence s i soft lengths bits
+    pub accepted_exactly : (said ≡ all_right) ↔ IsTheSequence s i soft lengths bits
     unfolding verdict_answer
     accepted_exactly = (to, from)
       where
-        to : said ≡ Accepted → IsTheSequence s i soft lengths bits
+        to : said ≡ all_right → IsTheSequence s i soft lengths bits
         to e =
-            let allowed = allowed_if_judged Accepted accepted_is_no_refusal e in
+            let allowed = allowed_if_judged _ e in
             let win = there_is_a_winner t (sound allowed.level) in
             let q = search_has_a_sequence t (sound allowed.level) win.0 win.1 in
             let is = answer_is_accepted verdict (sym (judged_if_allowed allowed) ∙ e) in
             let lines = (judge.accepted_exactly t (sound allowed.level) win.0 q.0 q.1 (listing_of 30 lengths bits)).0 is in
             (allowed, win.0, q.0, q.1, numbers_are 30 q.0 (all_fit allowed.level win.0 q.0 q.1) lengths bits allowed.both lines)
 
-        from : IsTheSequence s i soft lengths bits → said ≡ Accepted
+        from : IsTheSequence s i soft lengths bits → said ≡ all_right
         from (allowed, w, paths, q, numbers) =
             judged_if_allowed allowed
             ∙ ap verdict_answer ((judge.accepted_exactly t (sound allowed.level) w paths q (listing_of 30 lengths bits)).1 (are_numbers 30 paths (all_fit allowed.level w paths q) lengths bits numbers))
 
     -- ---- 02: "it names the first wrong line"
 
-    pub wrong_exactly : (k : ℕ) → (said ≡ Wrong k) ↔ DiffersFirstAt s i soft lengths bits k
+    pub wrong_exactly : (k : ℕ) → (said ≡ wrong_line k) ↔ DiffersFirstAt s i soft lengths bits k
     unfolding verdict_answer
     wrong_exactly k = (to, from)
       where
-        to : said ≡ Wrong k → DiffersFirstAt s i soft lengths bits k
+        to : said ≡ wrong_line k → DiffersFirstAt s i soft lengths bits k
         to e =
-            let allowed = allowed_if_judged (Wrong k) (wrong_is_no_refusal k) e in
+            let allowed = allowed_if_judged _ e in
             let win = there_is_a_winner t (sound allowed.level) in
             let q = search_has_a_sequence t (sound allowed.level) win.0 win.1 in
             let is = answer_is_wrong verdict k (sym (judged_if_allowed allowed) ∙ e) in
@@ -113,7 +109,7 @@ module _ (s : Search) (i : ℕ) (soft : List ℕ) where
             let first = first_lines 30 q.0 (all_fit allowed.level win.0 q.0 q.1) lengths bits allowed.both in
             (allowed, win.0, q.0, q.1, (first (k - 1)).0 d.same_before, λ n. d.differ ((first k).1 n))
 
-        from : DiffersFirstAt s i soft lengths bits k → said ≡ Wrong k
+        from : DiffersFirstAt s i soft lengths bits k → said ≡ wrong_line k
         from (allowed, w, paths, q, same, differ) =
             let first = first_lines 30 paths (all_fit allowed.level w paths q) lengths bits allowed.both in
             judged_if_allowed allowed
@@ -122,27 +118,27 @@ module _ (s : Search) (i : ℕ) (soft : List ℕ) where
     -- ---- after lines that are the search's own: a line that is no path, a line after the answer and an early stop
 
     module _ (allowed : Allowed i soft lengths bits) (w : Path) (paths : List Path) (q : Sequence t w paths) (k : ℕ) (right_before : FirstNumbersOf k paths lengths bits) where
-      wrong_there : (FirstNumbersOf (suc k) paths lengths bits → ⊥) → said ≡ Wrong (suc k)
+      wrong_there : (FirstNumbersOf (suc k) paths lengths bits → ⊥) → said ≡ wrong_line (suc k)
       wrong_there differ =
           let before_it : k ≡ suc k - 1 = omega arith in
           (wrong_exactly (suc k)).1 ((allowed, w, paths, q, subst (λ (j : ℕ). FirstNumbersOf j paths lengths bits) before_it right_before, differ))
 
-      pub malformed_line_is_wrong : k < length lengths → is_path 30 (get_or lengths k 0) (get_or bits k 0) ≡ false → said ≡ Wrong (suc k)
+      pub malformed_line_is_wrong : k < length lengths → is_path 30 (get_or lengths k 0) (get_or bits k 0) ≡ false → said ≡ wrong_line (suc k)
       malformed_line_is_wrong l no_path = wrong_there (no_line_malformed 30 paths (all_fit allowed.level w paths q) lengths bits k l no_path)
 
-      pub line_after_the_answer_is_wrong : k ≡ length paths → k < length lengths → said ≡ Wrong (suc k)
+      pub line_after_the_answer_is_wrong : k ≡ length paths → k < length lengths → said ≡ wrong_line (suc k)
       line_after_the_answer_is_wrong all l = wrong_there (λ e. omega (arith, first_numbers_length (suc k) paths lengths bits e))
 
-      pub early_stop_is_wrong : k ≡ length lengths → k < length paths → said ≡ Wrong (suc k)
+      pub early_stop_is_wrong : k ≡ length lengths → k < length paths → said ≡ wrong_line (suc k)
       early_stop_is_wrong all l = wrong_there (λ e. omega (arith, first_numbers_length (suc k) paths lengths bits e))
 
     -- ---- no listing is refused but by the questions, and a line that is named is one of its lines or the one after its last
 
-    pub accepted_or_wrong : Allowed i soft lengths bits → (said ≡ Accepted) ⊎ ((k : ℕ) × (said ≡ Wrong k) × (1 ≤ k) × (k ≤ length lengths + 1))
+    pub accepted_or_wrong : Allowed i soft lengths bits → (said ≡ all_right) ⊎ ((k : ℕ) × (said ≡ wrong_line k) × (1 ≤ k) × (k ≤ length lengths + 1))
     unfolding verdict_answer
     accepted_or_wrong allowed = go verdict refl
       where
-        go : (v : Verdict) → verdict ≡ v → (said ≡ Accepted) ⊎ ((k : ℕ) × (said ≡ Wrong k) × (1 ≤ k) × (k ≤ length lengths + 1))
+        go : (v : Verdict) → verdict ≡ v → (said ≡ all_right) ⊎ ((k : ℕ) × (said ≡ wrong_line k) × (1 ≤ k) × (k ≤ length lengths + 1))
         go accepted e = inl (judged_if_allowed allowed ∙ ap verdict_answer e)
         go (wrong k) e =
             let line = named_line t (listing_of 30 lengths bits) k e in
@@ -150,7 +146,7 @@ module _ (s : Search) (i : ℕ) (soft : List ℕ) where
 
     -- ---- the last line of an accepted listing is the answer: the word that the search returns, and there are as many lines as it counts
 
-    pub accepted_ends_with_the_answer : said ≡ Accepted
+    pub accepted_ends_with_the_answer : said ≡ all_right
         → (w : Path) × AheadOfAll short (level_values i) soft i w × (length lengths ≡ rank t w) × ((earlier : List ℕ) × (bits ≡ earlier ++ (number w ∷ [])))
         × ((limit : ℕ) → length lengths ≤ limit → searched t limit ≡ answer (found_word (sum (level_values i) soft) w) (length lengths))
     accepted_ends_with_the_answer e = go (accepted_exactly.0 e)
@@ -180,7 +176,7 @@ module _ (s : Search) (i : ℕ) (soft : List ℕ) where
 
     -- ---- a search of more than 2,000 steps has no accepted listing
 
-    pub long_search_has_no_listing : (c : ℕ) → searched t 2000 ≡ spent c → said ≡ Accepted → ⊥
+    pub long_search_has_no_listing : (c : ℕ) → searched t 2000 ≡ spent c → said ≡ all_right → ⊥
     long_search_has_no_listing c long e =
         let few = (accepted_exactly.0 e).0.most in
         let r = accepted_ends_with_the_answer e in
@@ -188,7 +184,7 @@ module _ (s : Search) (i : ℕ) (soft : List ℕ) where
 
   -- ---- of two different listings at most one is accepted
 
-  pub one_listing : (lengths bits lengths' bits' : List ℕ) → listing_answer s i soft lengths bits ≡ Accepted → listing_answer s i soft lengths' bits' ≡ Accepted → (lengths ≡ lengths') × (bits ≡ bits')
+  pub one_listing : (lengths bits lengths' bits' : List ℕ) → listing_answer s i soft lengths bits ≡ all_right → listing_answer s i soft lengths' bits' ≡ all_right → (lengths ≡ lengths') × (bits ≡ bits')
   one_listing lengths bits lengths' bits' e e' = go ((accepted_exactly lengths bits).0 e) ((accepted_exactly lengths' bits').0 e')
     where
       go : IsTheSequence s i soft lengths bits → IsTheSequence s i soft lengths' bits' → (lengths ≡ lengths') × (bits ≡ bits')

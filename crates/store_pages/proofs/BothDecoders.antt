@@ -17,11 +17,12 @@ use Rattle.concatenated.specs.Decode.{PageAnswer, answered, refused, page_low}
 use Rattle.concatenated.specs.Readers.{Agree, NoneSpent, NoneEnded, dead_ahead, sum_below, short_reader}
 use Rattle.concatenated.specs.OuterCode.{short_outer}
 use Rattle.concatenated.specs.Marks.{changed_marks, erased_marks}
-use Rattle.page.specs.Outcomes.{changed_totals, erased_totals, refused_page, outcome_of, data_buffer, filled, symbol_buffer, Buffer}
-use Rattle.page.specs.declared.PageOutcome.{PageOutcome}
+use Rattle.page.specs.Outcomes.{changed_totals, erased_totals, outcome_of, data_buffer, filled, symbol_buffer, Buffer, PageOutcome}
 use Rattle.concatenated.proofs.Short.{decoders_agree}
-use Rattle.questions.specs.declared.Outcome.{Outcome}
-use Rattle.questions.specs.declared.Outcome.TheVariants.{Done, Refused}
+use Rattle.questions.specs.Answer.{Outcome, refused as refused_by, done as all_done}
+use Rattle.questions.specs.declared.refusal.Refusal.{Refusal}
+use Rattle.questions.specs.Number.{number_of}
+use Rattle.std.specs.Prelude.{Ok, Err}
 use Rattle.store_pages.specs.Pages.{decoded_page, ask_page, PageFilled, PageDecoded, PageAsked, ListDecoded, ListAsked}
 use Rattle.store_pages.specs.BothDecoders.{SameButSteps}
 use Rattle.store_pages.proofs.Asked.{settled, Numbered, refusals_are_numbered}
@@ -50,20 +51,20 @@ buffers_agree B d old (answered ls m) (refused k) e = absurd e
 buffers_agree B d old (refused l) (answered ks n) e = absurd e
 buffers_agree B d old (refused l) (refused k) e = refl
 
-pub refusals_agree : (d n p : ℕ) → (n ≡ 0 → ⊥) → SameButSteps d (refused_page n p) (refused_page n p)
-refusals_agree d n p some = record { number = refl; place = refl; changed = refl; erased = refl; changed_marks_are = refl; erased_marks_are = refl; low = refl; steps = λ z. absurd (some z) }
+pub refusals_agree : (d : ℕ) (r : Refusal) → (number_of r.question ≡ 0 → ⊥) → SameButSteps d (Err r) (Err r)
+refusals_agree d r some = record { number = refl; place = refl; changed = refl; erased = refl; changed_marks_are = refl; erased_marks_are = refl; low = refl; steps = λ z. absurd (some z) }
 
 -- the same questions lead both calls to the same refusal, or both on
-asked_alike : (choice : Choice) (d : ℕ) (soft : List ℕ) (limit : ℕ) (room : Bool) (s w : PageOutcome) → SameButSteps d s w → SameButSteps d (ask_page choice soft limit room refused_page s) (ask_page choice soft limit room refused_page w)
-asked_alike choice d soft limit room s w same = go (ask_page choice soft limit room Refused Done) refl (refusals_are_numbered choice soft limit room)
+asked_alike : (choice : Choice) (d : ℕ) (soft : List ℕ) (limit : ℕ) (room : Bool) (s w : PageOutcome) → SameButSteps d s w → SameButSteps d (ask_page choice soft limit room refused_by s) (ask_page choice soft limit room refused_by w)
+asked_alike choice d soft limit room s w same = go (ask_page choice soft limit room refused_by all_done) refl (refusals_are_numbered choice soft limit room)
   where
-    both : (x y : PageOutcome) → ask_page choice soft limit room refused_page s ≡ x → ask_page choice soft limit room refused_page w ≡ y → SameButSteps d x y → SameButSteps d (ask_page choice soft limit room refused_page s) (ask_page choice soft limit room refused_page w)
-    both x y ex ey h = subst⁻¹ (λ (o : PageOutcome). SameButSteps d o (ask_page choice soft limit room refused_page w)) ex (subst⁻¹ (SameButSteps d x) ey h)
+    both : (x y : PageOutcome) → ask_page choice soft limit room refused_by s ≡ x → ask_page choice soft limit room refused_by w ≡ y → SameButSteps d x y → SameButSteps d (ask_page choice soft limit room refused_by s) (ask_page choice soft limit room refused_by w)
+    both x y ex ey h = subst⁻¹ (λ (o : PageOutcome). SameButSteps d o (ask_page choice soft limit room refused_by w)) ex (subst⁻¹ (SameButSteps d x) ey h)
 
-    go : (o : Outcome) → o ≡ ask_page choice soft limit room Refused Done → Numbered choice soft limit room o → SameButSteps d (ask_page choice soft limit room refused_page s) (ask_page choice soft limit room refused_page w)
-    go Done e h = both s w (settled choice soft limit room refused_page s Done e) (settled choice soft limit room refused_page w Done e) same
-    go (Refused n p) e h =
-        both (refused_page n p) (refused_page n p) (settled choice soft limit room refused_page s (Refused n p) e) (settled choice soft limit room refused_page w (Refused n p) e) (refusals_agree d n p (λ z. absurd (omega (arith, h, z))))
+    go : (o : Outcome) → o ≡ ask_page choice soft limit room refused_by all_done → Numbered choice soft limit room o → SameButSteps d (ask_page choice soft limit room refused_by s) (ask_page choice soft limit room refused_by w)
+    go (Ok v) e h = both s w (settled choice soft limit room refused_by s (Ok v) e) (settled choice soft limit room refused_by w (Ok v) e) same
+    go (Err r) e h =
+        both (Err r) (Err r) (settled choice soft limit room refused_by s (Err r) e) (settled choice soft limit room refused_by w (Err r) e) (refusals_agree d r (λ z. absurd (omega (arith, h, z))))
 
 -- all dead paths ahead of the words of the page's column searches together: of the codeword; with list of two of the second word where one was sought, of the first where none was
 abbrev pub dead_paths : Choice → List ℕ → ℕ → ℕ
@@ -80,9 +81,9 @@ both_calls B choice soft limit none_ended old rs rw ns nw s w =
     let E = decoded_page choice supercode soft limit in
     let room = eqb (length old) B.places in (
       subst (λ (x : PageOutcome). SameButSteps dead x rw) (sym s.answer)
-          (subst (λ (x : PageOutcome). SameButSteps dead (ask_page choice soft limit room refused_page (outcome_of E)) x) (sym w.answer)
+          (subst (λ (x : PageOutcome). SameButSteps dead (ask_page choice soft limit room refused_by (outcome_of E)) x) (sym w.answer)
           (asked_alike choice dead soft limit room (outcome_of E) (outcome_of D) (outcomes_agree dead D E agree))),
-      s.bytes ∙ ap (ask_page choice soft limit room (λ n p. old)) (buffers_agree B dead old D E agree) ∙ sym w.bytes,
+      s.bytes ∙ ap (ask_page choice soft limit room (λ q p. old)) (buffers_agree B dead old D E agree) ∙ sym w.bytes,
     )
 
 -- demand 3: where no supercode search at levels 1..3 is spent

@@ -30,18 +30,19 @@ use Rattle.concatenated.proofs.OuterJoint.{outer_laws}
 use Rattle.concatenated.proofs.Encoding.{row_listed, written_row_is_a_codeword, written_row_is_a_word, written_rows_hold_the_data}
 use Rattle.concatenated.proofs.Symbols.{row_after_row_is_a_word, rows_are_in_their_places, row_in_at}
 use Rattle.concatenated.proofs.Short as Short
-use Rattle.page.specs.Outcomes.{no_columns, report_of, outcome_of, Buffer, data_buffer, symbol_buffer, filled}
-use Rattle.page.specs.declared.PageOutcome.{PageOutcome}
+use Rattle.page.specs.Outcomes.{no_columns, report_of, outcome_of, Buffer, data_buffer, symbol_buffer, filled, PageOutcome, report}
 use Rattle.page.specs.declared.Report.{Report}
-use Rattle.questions.specs.Outcome.{after}
-use Rattle.questions.specs.declared.Outcome.{Outcome}
-use Rattle.questions.specs.declared.Outcome.TheVariants.{Done}
+use Rattle.questions.specs.Answer.{after, Outcome, done as all_done}
+use Rattle.std.specs.Prelude.{Ok}
 use Rattle.store_pages.specs.Pages.{decoded_page, PageFilled, PageDecoded, PageAsked, ListDecoded, ListAsked}
 use Rattle.store_pages.specs.Committing.{held_bytes, Committed, FourWords}
 use Rattle.store_pages.specs.CleanPages.{RightReadings, written_symbols, CameBackUnharmed, CameBackUnchanged, RefusedForUnread}
 use Rattle.store_pages.proofs.SoftValues.{page_is_soft}
 use Rattle.store_pages.proofs.Asked.{accepted_call}
 use Rattle.store_pages.proofs.Committing.{commit_accepts_exactly}
+
+abbrev to_outcome : Report → PageOutcome
+to_outcome r = Ok r
 
 abbrev written : List ℕ → List (List ℕ)
 written = written_rows short_page short_encoder
@@ -74,7 +75,7 @@ module _ (bytes : List ℕ) (are_bytes : Values 150 255 bytes) where
   written_rows_pack_to_the_data = written_rows_hold_the_data short_page Short.short_page_sound short_outer short_encoder ShortCodeword outer_laws bytes are_bytes.size below_256
 
   -- the symbols that asking fills in for a clean page are taken by committing, which writes the data
-  pub written_symbols_commit_to_the_data : (kept : List ℕ) (committed : Outcome) (new : List ℕ) → length kept ≡ 150 → Committed (written_symbols bytes) kept committed new → (committed ≡ Done) × (new ≡ bytes)
+  pub written_symbols_commit_to_the_data : (kept : List ℕ) (committed : Outcome) (new : List ℕ) → length kept ≡ 150 → Committed (written_symbols bytes) kept committed new → (committed ≡ all_done) × (new ≡ bytes)
   unfolding written_rows
   written_symbols_commit_to_the_data kept committed new room commit =
       let many : length (written bytes) ≡ 4 = listed_length (written_row short_page short_encoder bytes) 4 in
@@ -104,7 +105,7 @@ module _ (bytes soft : List ℕ) (right : RightReadings bytes soft) (limit : ℕ
     made : (r ≡ outcome_of page) × (new ≡ filled B old page)
     made = accepted_call (decoded_page choice s soft limit) B choice soft limit old right.are_values some at_most in_range room r new call
 
-    reports : (back : BackUnchanged short_page short_encoder bytes page) → r ≡ record { number = 0; place = 0; report = report_of back.levels back.steps }
+    reports : (back : BackUnchanged short_page short_encoder bytes page) → r ≡ Ok (report_of back.levels back.steps)
     unfolding outcome_of
     reports back = made.0 ∙ ap outcome_of back.answered_so
 
@@ -121,17 +122,17 @@ module _ (bytes soft : List ℕ) (right : RightReadings bytes soft) (limit : ℕ
           steps = back.steps;
           answered_so = back.answered_so;
           outcome = e;
-          changed = ap (λ (x : PageOutcome). x.report.changed) e ∙ none.0;
-          changed_marks_are = ap (λ (x : PageOutcome). x.report.changed_marks) e ∙ none.1;
+          changed = ap (λ (x : PageOutcome). (report x).changed) e ∙ none.0;
+          changed_marks_are = ap (λ (x : PageOutcome). (report x).changed_marks) e ∙ none.1;
           holds = holds_the_rows back;
         }
 
-    came_back_unharmed : (back : BackUnharmed short_page short_encoder bytes page) → CameBackUnharmed page (B.made (written bytes)) r new × (r.report.steps ≡ back.unchanged.steps)
+    came_back_unharmed : (back : BackUnharmed short_page short_encoder bytes page) → CameBackUnharmed page (B.made (written bytes)) r new × ((report r).steps ≡ back.unchanged.steps)
     unfolding came_back_unchanged
     came_back_unharmed back =
         let u = back.unchanged in
-        let e = reports u ∙ ap (λ (x : Report). record { number = 0; place = 0; report = x }) (no_columns_reported bytes u.levels u.rows_are_written u.steps u.none_changed back.none_erased) in
-        (record { unchanged = came_back_unchanged u; outcome = e }, ap (λ (x : PageOutcome). x.report.steps) e)
+        let e = reports u ∙ ap to_outcome (no_columns_reported bytes u.levels u.rows_are_written u.steps u.none_changed back.none_erased) in
+        (record { unchanged = came_back_unchanged u; outcome = e }, ap (λ (x : PageOutcome). (report x).steps) e)
 
     refused_for_unread : TooManyUnread short_page short_outer (short_reader choice s limit) (soft_columns short_page soft) page → RefusedForUnread choice s soft limit old r new
     unfolding outcome_of filled
@@ -167,12 +168,12 @@ module _ (bytes soft : List ℕ) (right : RightReadings bytes soft) (limit : ℕ
     unsearched = Short.clean_page_comes_back_unsearched short_outer short_encoder ShortCodeword outer_laws bytes right.are_bytes.size (below_256 bytes right.are_bytes) soft right.are_values.size (page_is_soft soft right.are_values) right.read_as_written s limit threshold
 
     pub clean_page_comes_back_unsearched_from_decoding : (old : List ℕ) → length old ≡ 150 → (r : PageOutcome) (new : List ℕ) → ListDecoded threshold s soft limit old r new
-        → CameBackUnharmed (decoded_page (on threshold) s soft limit) bytes r new × (r.report.steps ≡ 0) × Unsearched
+        → CameBackUnharmed (decoded_page (on threshold) s soft limit) bytes r new × ((report r).steps ≡ 0) × Unsearched
     clean_page_comes_back_unsearched_from_decoding old room r new call =
         let back = came_back_unharmed data_buffer (on threshold) in_range old room r new call unsearched.0 in (data_held _ r new back.0, back.1 ∙ unsearched.1, unsearched.2)
 
     pub clean_page_comes_back_unsearched_from_asking : (old : List ℕ) → length old ≡ 252 → (r : PageOutcome) (new : List ℕ) → ListAsked threshold s soft limit old r new
-        → CameBackUnharmed (decoded_page (on threshold) s soft limit) (written_symbols bytes) r new × (r.report.steps ≡ 0) × Unsearched
+        → CameBackUnharmed (decoded_page (on threshold) s soft limit) (written_symbols bytes) r new × ((report r).steps ≡ 0) × Unsearched
     clean_page_comes_back_unsearched_from_asking old room r new call =
         let back = came_back_unharmed symbol_buffer (on threshold) in_range old room r new call unsearched.0 in (back.0, back.1 ∙ unsearched.1, unsearched.2)
 

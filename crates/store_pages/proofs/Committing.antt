@@ -26,15 +26,13 @@ use Rattle.concatenated.proofs.Short.{short_page_sound}
 use Rattle.concatenated.proofs.OuterJoint.{outer_laws, short_codeword_is_told, told_is_a_short_codeword}
 use Rattle.concatenated.proofs.Symbols.{row_after_row_is_a_word, buffer_is_its_rows, as_many_rows_in, row_in_at, row_in_is_a_word, lowest_no_word_is_it, lowest_no_word_is_the_only_one}
 use Rattle.concatenated.proofs.RowsWritten.{rows_are_written_again}
-use Rattle.questions.specs.Outcome.{after}
+use Rattle.questions.specs.Answer.{after, Outcome, refused as refused_by, done as all_done}
 use Rattle.questions.specs.Questions.{first_above}
-use Rattle.questions.specs.declared.Outcome.{Outcome}
-use Rattle.questions.specs.declared.Outcome.TheVariants.{Done, Refused}
 use Rattle.questions.proofs.AllInRange.{no_value_above}
 use Rattle.questions.proofs.EitherWay.{asked_done, asked_further, asked_last}
-use Rattle.questions.proofs.Filled.{refused}
 use Rattle.questions.proofs.FirstAbove.{below_first}
 use Rattle.store_pages.specs.Committing.{no_word_in, commit_answer, held_bytes, Committed, FourWords, NoWordAt, EncodesAgain}
+use Rattle.questions.specs.declared.refusal.Question.TheVariants.{InputLength, OutputLength, Range, OuterWord}
 
 -- question 5 is answered yes exactly for a word of symbols
 pub symbols_are_a_word : (symbols : List ℕ) → length symbols ≡ 252 → 252 ≤ first_above symbols 63 → WordOf 64 252 symbols
@@ -42,13 +40,6 @@ symbols_are_a_word symbols long good = (long, λ j h. let small : get_or symbols
 
 word_is_in_range : (symbols : List ℕ) → WordOf 64 252 symbols → leb 252 (first_above symbols 63) ≡ true
 word_is_in_range symbols word = no_value_above symbols 252 63 word.0 (λ k h. omega (arith, word.1 k h))
-
--- a row that is no word is refused by 14
-pub bad_row_is_refused : (symbols old : List ℕ) (level : ℕ) → length symbols ≡ 252 → length old ≡ 150 → 252 ≤ first_above symbols 63 → level ≡ no_word_in symbols → level < 4 → Committed symbols old (Refused 14 level) old
-bad_row_is_refused symbols old level long room good is bad =
-    let lowest : no_word_in symbols < 4 = subst (λ (t : ℕ). t < 4) is bad in
-    let due : commit_answer symbols old ≡ Refused 14 (no_word_in symbols) = simp (eq-eqb _ _ long, eq-eqb _ _ room, le-leb _ _ good, lt-leb _ _ lowest) in
-    refused (due ∙ ap (Refused 14) (sym is))
 
 module _ (symbols : List ℕ) where
   abbrev rs : List (List ℕ)
@@ -85,13 +76,13 @@ module _ (symbols : List ℕ) where
 
   module _ (old : List ℕ) (r : Outcome) (new : List ℕ) (call : Committed symbols old r new) where
     -- "The buffer may be altered between, so each row is judged on commit": taken are exactly the buffers whose four rows are words, whoever filled them
-    pub commit_accepts_exactly : r ≡ Done ↔ FourWords symbols × (length old ≡ 150)
+    pub commit_accepts_exactly : r ≡ all_done ↔ FourWords symbols × (length old ≡ 150)
     commit_accepts_exactly = (
       λ e.
-          let one = asked_done (eqb (length symbols) 252) 1 0 _ (sym call.answer ∙ e) in
-          let two = asked_done (eqb (length old) 150) 2 0 _ one.1 in
-          let five = asked_done (leb 252 (first_above symbols 63)) 5 (first_above symbols 63) _ two.1 in
-          let fourteen = asked_done (leb 4 (no_word_in symbols)) 14 (no_word_in symbols) _ five.1 in
+          let one = asked_done (eqb (length symbols) 252) _ _ _ (sym call.answer ∙ e) in
+          let two = asked_done (eqb (length old) 150) _ _ _ one.1 in
+          let five = asked_done (leb 252 (first_above symbols 63)) _ _ _ two.1 in
+          let fourteen = asked_done (leb 4 (no_word_in symbols)) _ _ _ five.1 in
           let long : length symbols ≡ 252 = eqb-true _ _ one.0 in
           let word = symbols_are_a_word symbols long (leb-true 252 (first_above symbols 63) five.0) in
           let all : 4 ≤ no_word_in symbols = leb-true 4 (no_word_in symbols) fourteen.0 in
@@ -100,13 +91,13 @@ module _ (symbols : List ℕ) where
     )
 
     -- "14, a row that is no word of its outer code, place the lowest such level, asked after 5"
-    pub commit_refuses_by_14_exactly : (level : ℕ) → r ≡ Refused 14 level ↔ NoWordAt symbols level × (length old ≡ 150)
+    pub commit_refuses_by_14_exactly : (level : ℕ) → r ≡ refused_by OuterWord level ↔ NoWordAt symbols level × (length old ≡ 150)
     commit_refuses_by_14_exactly level = (
       λ e.
-          let one = asked_further (eqb (length symbols) 252) 1 0 14 level _ (sym call.answer ∙ e) (λ z. absurd (omega (arith, z))) in
-          let two = asked_further (eqb (length old) 150) 2 0 14 level _ one.1 (λ z. absurd (omega (arith, z))) in
-          let five = asked_further (leb 252 (first_above symbols 63)) 5 (first_above symbols 63) 14 level _ two.1 (λ z. absurd (omega (arith, z))) in
-          let fourteen = asked_last (leb 4 (no_word_in symbols)) 14 (no_word_in symbols) 14 level five.1 in
+          let one = asked_further (eqb (length symbols) 252) InputLength 0 OuterWord level _ (sym call.answer ∙ e) (λ z. absurd (omega (arith, z))) in
+          let two = asked_further (eqb (length old) 150) OutputLength 0 OuterWord level _ one.1 (λ z. absurd (omega (arith, z))) in
+          let five = asked_further (leb 252 (first_above symbols 63)) Range (first_above symbols 63) OuterWord level _ two.1 (λ z. absurd (omega (arith, z))) in
+          let fourteen = asked_last (leb 4 (no_word_in symbols)) OuterWord (no_word_in symbols) OuterWord level five.1 in
           let word = symbols_are_a_word symbols (eqb-true _ _ one.0) (leb-true 252 (first_above symbols 63) five.0) in
           let exists : level < 4 = omega (arith, leb-false 4 (no_word_in symbols) fourteen.0, fourteen.1) in
           let here : LowestNoWord is_short_codeword rs level = subst (LowestNoWord is_short_codeword rs) fourteen.1 lowest in (
@@ -125,12 +116,12 @@ module _ (symbols : List ℕ) where
           let here : LowestNoWord is_short_codeword rs level = record { within = omega (arith, at.level_exists, as_many_rows_in short_page symbols); words_below = λ i h. tells i (omega (arith, h, at.level_exists)) (at.words_below i h); no_word = λ h. none } in
           let same = lowest_no_word_is_the_only_one is_short_codeword rs (no_word_in symbols) level lowest here in
           let bad : no_word_in symbols < 4 = omega (arith, same, at.level_exists) in
-          let due : commit_answer symbols old ≡ Refused 14 (no_word_in symbols) = simp (eq-eqb _ _ word.0, eq-eqb _ _ given.1, word_is_in_range symbols word, lt-leb _ _ bad) in
-          call.answer ∙ due ∙ ap (Refused 14) same,
+          let due : commit_answer symbols old ≡ refused_by OuterWord (no_word_in symbols) = simp (eq-eqb _ _ word.0, eq-eqb _ _ given.1, word_is_in_range symbols word, lt-leb _ _ bad) in
+          call.answer ∙ due ∙ ap (refused_by OuterWord) same,
     )
 
     -- what is written encodes to exactly these rows again
-    pub committed_data_encode_again : r ≡ Done → EncodesAgain symbols new
+    pub committed_data_encode_again : r ≡ all_done → EncodesAgain symbols new
     unfolding bytes_of_rows written_page
     committed_data_encode_again done =
         let taken = commit_accepts_exactly.0 done in
@@ -149,7 +140,7 @@ module _ (symbols : List ℕ) where
 -- a buffer of four words, altered in a row in at most T of its symbols, is not taken: T is 30, 12, 6, 4
 pub few_altered_symbols_are_refused : (symbols altered : List ℕ) → FourWords symbols → (i : ℕ) → i < 4 → (row_in short_page altered i ≡ row_in short_page symbols i → ⊥)
     → errors ℕ_discrete (marked []) 63 (symbol (row_in short_page altered i)) (symbol (row_in short_page symbols i)) ≤ short_roots i
-    → (old : List ℕ) (r : Outcome) (new : List ℕ) → Committed altered old r new → r ≡ Done → ⊥
+    → (old : List ℕ) (r : Outcome) (new : List ℕ) → Committed altered old r new → r ≡ all_done → ⊥
 few_altered_symbols_are_refused symbols altered four i h other near old r new call done =
     let a = ((commit_accepts_exactly altered old r new call).0 done).0.words i h in
     let b = four.words i h in

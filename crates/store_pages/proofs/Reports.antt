@@ -24,11 +24,11 @@ use Rattle.concatenated.proofs.OuterJoint.{outer_laws}
 use Rattle.concatenated.proofs.Readings.{ShortReadsWords}
 use Rattle.concatenated.proofs.Lows.{short_levels_have_an_unerased_column, short_page_low_is_lowest, short_page_low_is_near}
 use Rattle.concatenated.proofs.SoftPages.{as_many_columns}
-use Rattle.page.specs.Outcomes.{report_of, refusal_report, refused_page, outcome_of, Buffer}
-use Rattle.page.specs.declared.PageOutcome.{PageOutcome}
+use Rattle.page.specs.Outcomes.{report_of, refusal_report, outcome_of, Buffer, PageOutcome, report}
 use Rattle.store_pages.specs.Pages.{FilledBy}
 use Rattle.store_pages.specs.Reports.{bit_at, Marked, MarksOf, LowestColumn}
 use Rattle.store_pages.proofs.Asked.{every_way}
+use Rattle.questions.specs.Answer.{number, refused as refused_by}
 
 -- no column
 none : (i : ℕ) → i < 4 → get_or {A = ℕ} (replicate 4 0) i 0 ≡ 0
@@ -92,39 +92,39 @@ module _ (limit : ℕ) (read : Reader) (reads : ShortReadsWords limit read) (sof
               bit (λ l. l.changed) i j no_level h ∙ ap flag ((sets i h).apart j (one_is_in _ (sym (bit (λ l. l.erased) i j no_level h) ∙ is)));
         }
 
-  pub answers_are_marked : (d : PageAnswer) → D ≡ d → Marked (outcome_of d).report
+  pub answers_are_marked : (d : PageAnswer) → D ≡ d → Marked (report (outcome_of d))
   unfolding outcome_of
   answers_are_marked (refused l) e = refusals_are_marked
   answers_are_marked (answered ls n) e = answered_is_marked ls n e
 
   -- every input
-  pub reports_are_marked : (choice : Choice) (B : Buffer) (old : List ℕ) (r : PageOutcome) (new : List ℕ) → FilledBy D B choice soft limit old r new → Marked r.report
+  pub reports_are_marked : (choice : Choice) (B : Buffer) (old : List ℕ) (r : PageOutcome) (new : List ℕ) → FilledBy D B choice soft limit old r new → Marked (report r)
   reports_are_marked choice B old r new call =
-      subst⁻¹ (λ (o : PageOutcome). Marked o.report) call.answer
-      (every_way choice soft limit (eqb (length old) B.places) (λ (o : PageOutcome). Marked o.report) refused_page (outcome_of D) (λ n p some few near. refusals_are_marked) (λ most. answers_are_marked D refl))
+      subst⁻¹ (λ (o : PageOutcome). Marked (report o)) call.answer
+      (every_way choice soft limit (eqb (length old) B.places) (λ (o : PageOutcome). Marked (report o)) refused_by (outcome_of D) (λ n p some few near. refusals_are_marked) (λ most. answers_are_marked D refl))
 
-  answers_have_their_marks : (d : PageAnswer) → D ≡ d → (outcome_of d).number ≡ 0 → MarksOf d (outcome_of d).report
+  answers_have_their_marks : (d : PageAnswer) → D ≡ d → number (outcome_of d) ≡ 0 → MarksOf d (report (outcome_of d))
   unfolding outcome_of
   answers_have_their_marks (refused l) e z = absurd (omega (arith, z))
   answers_have_their_marks (answered ls n) e z = record { levels = ls; is = refl; changed_bit = bit ls n e (λ l. l.changed); erased_bit = bit ls n e (λ l. l.erased) }
 
   -- each of them, where it answers: the bits of its marks are the columns of the levels' sets
-  pub bits_are_the_columns : (choice : Choice) (B : Buffer) (old : List ℕ) (r : PageOutcome) (new : List ℕ) → FilledBy D B choice soft limit old r new → r.number ≡ 0 → MarksOf D r.report
+  pub bits_are_the_columns : (choice : Choice) (B : Buffer) (old : List ℕ) (r : PageOutcome) (new : List ℕ) → FilledBy D B choice soft limit old r new → number r ≡ 0 → MarksOf D (report r)
   bits_are_the_columns choice B old r new call =
       subst⁻¹ HasMarks call.answer
-      (every_way choice soft limit (eqb (length old) B.places) HasMarks refused_page (outcome_of D) (λ n p some few near z. absurd (omega (arith, some, z))) (λ most. answers_have_their_marks D refl))
+      (every_way choice soft limit (eqb (length old) B.places) HasMarks refused_by (outcome_of D) (λ n p some few near z. absurd (omega (arith, some, z))) (λ most. answers_have_their_marks D refl))
     where
       HasMarks : PageOutcome → Type 0
-      HasMarks o = o.number ≡ 0 → MarksOf D o.report
+      HasMarks o = number o ≡ 0 → MarksOf D (report o)
 
   -- ---- the low point
 
-  pub answers_are_near : (d : PageAnswer) → D ≡ d → nat_abs (outcome_of d).report.low ≤ 1800
+  pub answers_are_near : (d : PageAnswer) → D ≡ d → nat_abs (report (outcome_of d)).low ≤ 1800
   unfolding outcome_of
   answers_are_near (refused l) e = omega arith
   answers_are_near (answered ls n) e = short_page_low_is_near limit read reads (soft_columns short_page soft) (as_many_columns short_page soft) ls n e
 
-  answers_have_the_lowest : (d : PageAnswer) → D ≡ d → ((outcome_of d).number ≡ 0 → LowestColumn d (outcome_of d).report) × (((outcome_of d).number ≡ 0 → ⊥) → (outcome_of d).report.low ≡ pos 0)
+  answers_have_the_lowest : (d : PageAnswer) → D ≡ d → (number (outcome_of d) ≡ 0 → LowestColumn d (report (outcome_of d))) × ((number (outcome_of d) ≡ 0 → ⊥) → (report (outcome_of d)).low ≡ pos 0)
   unfolding outcome_of
   answers_have_the_lowest (refused l) e = (λ z. absurd (omega (arith, z)), λ some. refl)
   answers_have_the_lowest (answered ls n) e =
@@ -136,10 +136,10 @@ module _ (limit : ℕ) (read : Reader) (reads : ShortReadsWords limit read) (sof
 
   -- each of them: where it answers, the low point is that of the lowest column; a refusal has 0
   pub low_is_of_the_lowest_column : (choice : Choice) (B : Buffer) (old : List ℕ) (r : PageOutcome) (new : List ℕ) → FilledBy D B choice soft limit old r new
-      → (r.number ≡ 0 → LowestColumn D r.report) × ((r.number ≡ 0 → ⊥) → r.report.low ≡ pos 0)
+      → (number r ≡ 0 → LowestColumn D (report r)) × ((number r ≡ 0 → ⊥) → (report r).low ≡ pos 0)
   low_is_of_the_lowest_column choice B old r new call =
       subst⁻¹ HasLow call.answer
-      (every_way choice soft limit (eqb (length old) B.places) HasLow refused_page (outcome_of D) (λ n p some few near. (λ z. absurd (omega (arith, some, z)), λ k. refl)) (λ most. answers_have_the_lowest D refl))
+      (every_way choice soft limit (eqb (length old) B.places) HasLow refused_by (outcome_of D) (λ n p some few near. (λ z. absurd (omega (arith, some, z)), λ k. refl)) (λ most. answers_have_the_lowest D refl))
     where
       HasLow : PageOutcome → Type 0
-      HasLow o = (o.number ≡ 0 → LowestColumn D o.report) × ((o.number ≡ 0 → ⊥) → o.report.low ≡ pos 0)
+      HasLow o = (number o ≡ 0 → LowestColumn D (report o)) × ((number o ≡ 0 → ⊥) → (report o).low ≡ pos 0)

@@ -3,7 +3,6 @@ use mathlib.Core.Bool.{true}
 use mathlib.Core.List.{List}
 use mathlib.Core.Path.{◌≡◌, sym, ap, ◌∙◌}
 use Prim.Native.Nat.{ℕ, ◌≤◌}
-use borrow.Author.Tests.{eq-eqb, ne_eqb}
 use lib.ListN.{length}
 use Rattle.column.specs.Shape.{short}
 use Rattle.dump.specs.Accepted.{Values}
@@ -14,21 +13,14 @@ use Rattle.concatenated.specs.Decode.{Reader, answered, decoded}
 use Rattle.concatenated.specs.Written.{written_rows, columns_of}
 use Rattle.concatenated.specs.Misread.{WithinReach}
 use Rattle.concatenated.specs.OuterCode.{short_outer, short_encoder, ShortCodeword}
-use Rattle.page.specs.Outcomes.{report_of, outcome_of, data_buffer, filled}
-use Rattle.page.specs.declared.PageOutcome.{PageOutcome}
+use Rattle.page.specs.Outcomes.{report_of, outcome_of, data_buffer, filled, PageOutcome, report}
 use Rattle.concatenated.proofs.Digits.{Below}
 use Rattle.concatenated.proofs.OuterJoint.{outer_laws}
 use Rattle.concatenated.proofs.Short.{written_page_comes_back}
-use Rattle.questions.specs.Outcome.{Filled}
-use Rattle.questions.specs.declared.Outcome.TheVariants.{Refused}
-use Rattle.questions.proofs.Filled.{refused}
-use Rattle.store_pages.specs.Pages.{FilledBy, encode_page_answer}
+use Rattle.questions.specs.Answer.{number, place}
+use Rattle.store_pages.specs.Pages.{FilledBy}
 use Rattle.store_pages.specs.WrittenPages.{CameBack}
 use Rattle.store_pages.proofs.Asked.{accepted_call}
-
--- a written page has 252 bytes: for another length it is refused by 2
-pub no_room_for_the_page : (bytes out made : List ℕ) → length bytes ≡ 150 → (length out ≡ 252 → ⊥) → Filled (encode_page_answer bytes out) made out (Refused 2 0) out
-no_room_for_the_page bytes out made long none = refused (simp (eq-eqb _ _ long, ne_eqb _ _ none))
 
 module _ (soft : List ℕ) (values_soft : Values 1890 7 soft) (limit : ℕ) (some : 1 ≤ limit) (at_most : limit ≤ 2000) (choice : Choice) (in_range : threshold_allowed choice ≡ true) (old : List ℕ) (room : length old ≡ 150) where
   -- what `encode_page` wrote, read within reach at each level by whatever reader the call decodes by, comes back from the call
@@ -41,11 +33,11 @@ module _ (soft : List ℕ) (values_soft : Values 1890 7 soft) (limit : ℕ) (som
       let made = accepted_call (decoded short short_outer read (soft_columns short_page soft)) data_buffer choice soft limit old values_soft some at_most in_range room r new call in
       let outcome : r ≡ outcome_of (answered back.0 back.1) = made.0 ∙ ap outcome_of back.2 in
       record {
-        number = ap (λ (x : PageOutcome). x.number) outcome;
-        place = ap (λ (x : PageOutcome). x.place) outcome;
+        number = ap number outcome;
+        place = ap place outcome;
         data_are = made.1 ∙ ap (filled data_buffer old) back.2 ∙ back.4;
         levels = back.0;
-        answered_so = back.2 ∙ ap (λ (x : PageOutcome). answered back.0 x.report.steps) (sym outcome);
+        answered_so = back.2 ∙ ap (λ (x : PageOutcome). answered back.0 (report x).steps) (sym outcome);
         rows_are_written = back.3;
-        reported = ap (λ (x : PageOutcome). x.report) outcome ∙ ap (λ (x : PageOutcome). report_of back.0 x.report.steps) (sym outcome);
+        reported = ap report outcome ∙ ap (λ (x : PageOutcome). report_of back.0 (report x).steps) (sym outcome);
       }

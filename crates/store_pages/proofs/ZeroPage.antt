@@ -14,9 +14,9 @@ use Rattle.concatenated.specs.Decode.{all_lows, page_low}
 use Rattle.concatenated.specs.Marks.{mark_of}
 use Rattle.concatenated.specs.Format.{short_page}
 use Rattle.concatenated.specs.ZeroPage.{zero_page}
-use Rattle.page.specs.Outcomes.{no_columns, outcome_of, data_buffer, filled}
-use Rattle.page.specs.declared.PageOutcome.{PageOutcome}
+use Rattle.page.specs.Outcomes.{no_columns, outcome_of, data_buffer, filled, PageOutcome}
 use Rattle.concatenated.proofs.ZeroPage.{zero_page_comes_back, zero_levels_hold_zeros}
+use Rattle.std.specs.Prelude.{Ok}
 use Rattle.store_pages.specs.Pages.{decoded_page, PageDecoded}
 use Rattle.store_pages.proofs.Asked.{accepted_call}
 
@@ -26,7 +26,7 @@ zeros_are_soft = record { size = refl; range = λ k h. let none : get_or {A = �
 -- either decoder, any limit from 30 to 2,000: number 0, place 0, 7560 steps, no column changed or erased, the low point 2, and 150 bytes of zero
 pub zero_page_comes_back_from_the_calls : (s : Search) (limit : ℕ) → 30 ≤ limit → limit ≤ 2000 → (old : List ℕ) → length old ≡ 150
     → (r : PageOutcome) (new : List ℕ) → PageDecoded s (zero_page short_page) limit old r new
-    → (r ≡ record { number = 0; place = 0; report = no_columns 7560 (pos 2) }) × (new ≡ replicate 150 0)
+    → (r ≡ Ok (no_columns 7560 (pos 2))) × (new ≡ replicate 150 0)
 unfolding outcome_of filled total mark_of listed page_low all_lows flat_map lowest lowest_from lower
 zero_page_comes_back_from_the_calls s limit enough most old room r new call =
     let made = accepted_call (decoded_page off s (zero_page short_page) limit) data_buffer off (zero_page short_page) limit old zeros_are_soft (omega arith) most refl room r new call in

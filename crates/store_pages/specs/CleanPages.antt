@@ -1,5 +1,5 @@
 -- 02, point 12: clean bits, weak readings: a written page in which each soft value reads as the written bit, as a call reads it. Assumes nothing.
-use Rattle.std.specs.Prelude.{List, ◌≡◌, ℕ, replicate}
+use Rattle.std.specs.Prelude.{Ok, List, ◌≡◌, ℕ, replicate}
 use Rattle.dump.specs.Accepted.{Values}
 use Rattle.trellis.specs.Demand.{Search}
 use Rattle.trellis.specs.TwoWords.{Choice}
@@ -11,9 +11,10 @@ use Rattle.concatenated.specs.Symbols.{row_after_row}
 use Rattle.concatenated.specs.Readers.{short_reader}
 use Rattle.concatenated.specs.Clean.{ReadsAsWritten, TooManyUnread}
 use Rattle.concatenated.specs.OuterCode.{short_outer, short_encoder}
-use Rattle.page.specs.Outcomes.{no_columns, report_of, refused_page}
-use Rattle.page.specs.declared.PageOutcome.{PageOutcome}
+use Rattle.page.specs.Outcomes.{no_columns, report_of, PageOutcome, report}
 use Rattle.store_pages.specs.Pages.{decoded_page}
+use Rattle.questions.specs.declared.refusal.Question.TheVariants.{Reach}
+use Rattle.questions.specs.Answer.{refused}
 
 -- 150 bytes of data, and 1,890 soft values each of which reads as the bit that `encode_page` writes there, at any sureness
 pub record RightReadings (bytes soft : List ℕ) : Type 0 where
@@ -30,18 +31,18 @@ pub record CameBackUnchanged (answer : PageAnswer) (contents : List ℕ) (r : Pa
   pub levels : List Level
   pub steps : ℕ
   pub answered_so : answer ≡ answered levels steps
-  pub outcome : r ≡ record { number = 0; place = 0; report = report_of levels steps }
-  pub changed : r.report.changed ≡ replicate 4 0
-  pub changed_marks_are : r.report.changed_marks ≡ replicate 4 0
+  pub outcome : r ≡ Ok (report_of levels steps)
+  pub changed : (report r).changed ≡ replicate 4 0
+  pub changed_marks_are : (report r).changed_marks ≡ replicate 4 0
   pub holds : new ≡ contents
 
 -- and no erased column either: the report is that of no columns, with the definition's steps and low point
 pub record CameBackUnharmed (answer : PageAnswer) (contents : List ℕ) (r : PageOutcome) (new : List ℕ) : Type 0 where
   pub unchanged : CameBackUnchanged answer contents r new
-  pub outcome : r ≡ record { number = 0; place = 0; report = no_columns unchanged.steps (page_low unchanged.levels) }
+  pub outcome : r ≡ Ok (no_columns unchanged.steps (page_low unchanged.levels))
 
 -- the call refuses by 10, at a level where more columns are unread than its row has roots, 30, 12, 6 or 4; the buffer is as it was
 pub record RefusedForUnread (choice : Choice) (s : Search) (soft : List ℕ) (limit : ℕ) (old : List ℕ) (r : PageOutcome) (new : List ℕ) : Type 0 where
   pub unread : TooManyUnread short_page short_outer (short_reader choice s limit) (soft_columns short_page soft) (decoded_page choice s soft limit)
-  pub outcome : r ≡ refused_page 10 unread.level
+  pub outcome : r ≡ refused Reach unread.level
   pub holds : new ≡ old

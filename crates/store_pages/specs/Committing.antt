@@ -5,10 +5,9 @@ use Rattle.concatenated.specs.Format.{short_page}
 use Rattle.concatenated.specs.Written.{written_rows, written_page, page_in_bytes, bytes_of_rows}
 use Rattle.concatenated.specs.Symbols.{row_after_row, row_in, rows_in, lowest_no_word}
 use Rattle.concatenated.specs.OuterCode.{short_encoder, ShortCodeword, is_short_codeword}
-use Rattle.questions.specs.Outcome.{Filled}
+use Rattle.questions.specs.Answer.{Filled, Outcome, refused, done}
 use Rattle.questions.specs.Questions.{ask, first_above}
-use Rattle.questions.specs.declared.Outcome.{Outcome}
-use Rattle.questions.specs.declared.Outcome.TheVariants.{Done, Refused}
+use Rattle.questions.specs.declared.refusal.Question.TheVariants.{InputLength, OutputLength, Range, OuterWord}
 
 -- "a row that is no word of its outer code, place the lowest such level"; 4 where there is none
 abbrev pub no_word_in : List ℕ → ℕ
@@ -17,11 +16,11 @@ no_word_in symbols = lowest_no_word is_short_codeword 0 (rows_in short_page symb
 -- 1: 252 symbols, 2: 150 places, 5: each symbol 0..63, 14: each row a word of its outer code
 abbrev pub commit_answer : List ℕ → List ℕ → Outcome
 commit_answer symbols out =
-    ask (eqb (length symbols) 252) (Refused 1 0)
-    (ask (eqb (length out) 150) (Refused 2 0)
-    (ask (leb 252 (first_above symbols 63)) (Refused 5 (first_above symbols 63))
-    (ask (leb 4 (no_word_in symbols)) (Refused 14 (no_word_in symbols))
-    Done)))
+    ask (eqb (length symbols) 252) (refused InputLength 0)
+    (ask (eqb (length out) 150) (refused OutputLength 0)
+    (ask (leb 252 (first_above symbols 63)) (refused Range (first_above symbols 63))
+    (ask (leb 4 (no_word_in symbols)) (refused OuterWord (no_word_in symbols))
+    done)))
 
 -- "the 150 bytes its rows hold"
 abbrev pub held_bytes : List ℕ → List ℕ

@@ -8,18 +8,18 @@ use Rattle.concatenated.specs.SoftPage.{soft_columns}
 use Rattle.concatenated.specs.Decode.{PageAnswer, decoded}
 use Rattle.concatenated.specs.Readers.{short_reader}
 use Rattle.concatenated.specs.OuterCode.{short_outer}
-use Rattle.page.specs.Outcomes.{refused_page, outcome_of, data_buffer, filled, symbol_buffer, Buffer}
-use Rattle.page.specs.declared.PageOutcome.{PageOutcome}
+use Rattle.page.specs.Outcomes.{outcome_of, data_buffer, filled, symbol_buffer, Buffer, PageOutcome}
+use Rattle.questions.specs.declared.refusal.Question.{Question}
 use Rattle.questions.specs.Questions.{ask, first_above}
-use Rattle.questions.specs.declared.Outcome.{Outcome}
-use Rattle.questions.specs.declared.Outcome.TheVariants.{Done, Refused}
+use Rattle.questions.specs.Answer.{Outcome, refused, done}
+use Rattle.questions.specs.declared.refusal.Question.TheVariants.{InputLength, OutputLength, Limit, Range, Threshold}
 
 -- 1: 150 bytes, 2: 252 places
 abbrev pub encode_page_answer : List ℕ → List ℕ → Outcome
 encode_page_answer bytes out =
-    ask (eqb (length bytes) 150) (Refused 1 0)
-    (ask (eqb (length out) 252) (Refused 2 0)
-    Done)
+    ask (eqb (length bytes) 150) (refused InputLength 0)
+    (ask (eqb (length out) 252) (refused OutputLength 0)
+    done)
 
 -- 02, point 9: "Calls that name no limit, and `readpage`, now use 200"
 abbrev pub default_limit : ℕ
@@ -30,20 +30,20 @@ abbrev pub decoded_page : Choice → Search → List ℕ → ℕ → PageAnswer
 decoded_page choice s soft limit = decoded short short_outer (short_reader choice s limit) (soft_columns short_page soft)
 
 -- 1: 1,890 values, 2: whether the outputs have their places, 4: the limit 1..2,000, 11: with list of two, its threshold, 5: each value 0..7; `refusal` gives what a no gives
-abbrev pub ask_page : {A : Type 0} → Choice → List ℕ → ℕ → Bool → (ℕ → ℕ → A) → A → A
+abbrev pub ask_page : {A : Type 0} → Choice → List ℕ → ℕ → Bool → (Question → ℕ → A) → A → A
 ask_page choice soft limit room refusal next =
-    ask (eqb (length soft) 1890) (refusal 1 0)
-    (ask room (refusal 2 0)
-    (ask (leb 1 limit) (refusal 4 0)
-    (ask (leb limit 2000) (refusal 4 0)
-    (ask (threshold_allowed choice) (refusal 11 0)
-    (ask (leb 1890 (first_above soft 7)) (refusal 5 (first_above soft 7))
+    ask (eqb (length soft) 1890) (refusal InputLength 0)
+    (ask room (refusal OutputLength 0)
+    (ask (leb 1 limit) (refusal Limit 0)
+    (ask (leb limit 2000) (refusal Limit 0)
+    (ask (threshold_allowed choice) (refusal Threshold 0)
+    (ask (leb 1890 (first_above soft 7)) (refusal Range (first_above soft 7))
     next)))))
 
 -- a call that decodes to `page`: the answer, 10 with its level included, and the bytes after it: what the answer fills the buffer with, or the old ones
 pub record FilledBy (page : PageAnswer) (B : Buffer) (choice : Choice) (soft : List ℕ) (limit : ℕ) (old : List ℕ) (r : PageOutcome) (new : List ℕ) : Type 0 where
-  pub answer : r ≡ ask_page choice soft limit (eqb (length old) B.places) refused_page (outcome_of page)
-  pub bytes : new ≡ ask_page choice soft limit (eqb (length old) B.places) (λ n p. old) (filled B old page)
+  pub answer : r ≡ ask_page choice soft limit (eqb (length old) B.places) refused (outcome_of page)
+  pub bytes : new ≡ ask_page choice soft limit (eqb (length old) B.places) (λ q p. old) (filled B old page)
 
 -- with one of the two searches
 abbrev pub PageFilled : Buffer → Choice → Search → List ℕ → ℕ → List ℕ → PageOutcome → List ℕ → Type 0

@@ -4,15 +4,15 @@ use Rattle.concatenated.specs.Format.{short_page}
 use Rattle.concatenated.specs.Decode.{PageAnswer, answered, Level, rows}
 use Rattle.concatenated.specs.Written.{written_rows}
 use Rattle.concatenated.specs.OuterCode.{short_encoder}
-use Rattle.page.specs.Outcomes.{report_of}
-use Rattle.page.specs.declared.PageOutcome.{PageOutcome}
+use Rattle.page.specs.Outcomes.{report_of, PageOutcome, report}
+use Rattle.questions.specs.Answer.{number, place}
 
 -- demand 2: "A written page comes back": the call answers with number 0, place 0 and the data; its report is that of levels whose rows are the written ones
 pub record CameBack (answer : PageAnswer) (bytes : List ℕ) (r : PageOutcome) (new : List ℕ) : Type 0 where
-  pub number : r.number ≡ 0
-  pub place : r.place ≡ 0
+  pub number : number r ≡ 0
+  pub place : place r ≡ 0
   pub data_are : new ≡ bytes
   pub levels : List Level
-  pub answered_so : answer ≡ answered levels r.report.steps
+  pub answered_so : answer ≡ answered levels (report r).steps
   pub rows_are_written : rows levels ≡ written_rows short_page short_encoder bytes
-  pub reported : r.report ≡ report_of levels r.report.steps
+  pub reported : report r ≡ report_of levels (report r).steps

@@ -21,13 +21,14 @@ use Rattle.trellis.proofs.Demand.{Searchable, ranks_differ_by_the_dead_ahead}
 use Rattle.trellis.proofs.Counts.{rank_counts, rank_is_a_number_of_paths, dead_ahead_counts}
 use Rattle.trellis.proofs.Short.{searchable, one_codeword_is_ahead_of_all, answers_within_the_limit, is_spent_above_the_limit}
 use Rattle.searches.proofs.Questions.{all_yes}
-use Rattle.searches.specs.Searches.{number, place, word, count, low, Is, Allowed, outcome_answer, search_answer}
-use Rattle.searches.specs.declared.SearchAnswer.TheVariants.{Found, Refused}
+use Rattle.questions.specs.Answer.{number, place, refused}
+use Rattle.questions.specs.declared.refusal.Question.TheVariants.{Spent}
+use Rattle.searches.specs.Searches.{found, word, count, low, Is, Allowed, outcome_answer, search_answer}
 
 -- only question 9 is left
 pub asked : (choice : Choice) → threshold_allowed choice ≡ true → (s : Search) (level : ℕ) (soft : List ℕ) (limit : ℕ) → Allowed level soft limit
     → search_answer choice s level soft limit ≡ outcome_answer (searched_by choice s short (level_values level) limit soft level)
-asked choice in_range s level soft limit allowed = all_yes choice level soft limit in_range allowed Refused _
+asked choice in_range s level soft limit allowed = all_yes choice level soft limit in_range allowed refused _
 
 module _ (s : Search) (level : ℕ) (soft : List ℕ) (limit : ℕ) (allowed : Allowed level soft limit) where
   -- one codeword is ahead of all others, and the search's paths that are prefixes of it or ahead of it can be listed
@@ -47,19 +48,19 @@ module _ (s : Search) (level : ℕ) (soft : List ℕ) (limit : ℕ) (allowed : A
     many = rank_counts short level (searchable level allowed.level) (level_values level) soft w s ps listed
 
     pub call_answers_within_the_limit : length ps ≤ limit
-        → (search_answer off s level soft limit ≡ Found (column_of w) (length ps) (low_of w)) × Is (search_answer off s level soft limit) 0 0 (column_of w) (length ps) (low_of w)
+        → (search_answer off s level soft limit ≡ found (column_of w) (length ps) (low_of w)) × Is (search_answer off s level soft limit) 0 0 (column_of w) (length ps) (low_of w)
     unfolding outcome_answer
     call_answers_within_the_limit l =
-        let found : search_answer off s level soft limit ≡ Found (column_of w) (length ps) (low_of w) =
-        asked off refl s level soft limit allowed ∙ ap outcome_answer (answers_within_the_limit level allowed.level soft s w best limit (omega (arith, many))) ∙ ap (λ (c : ℕ). Found (column_of w) c (low_of w)) (sym many) in
-        (found, (ap number found, ap place found, ap word found, ap count found, ap low found))
+        let is : search_answer off s level soft limit ≡ found (column_of w) (length ps) (low_of w) =
+        asked off refl s level soft limit allowed ∙ ap outcome_answer (answers_within_the_limit level allowed.level soft s w best limit (omega (arith, many))) ∙ ap (λ (c : ℕ). found (column_of w) c (low_of w)) (sym many) in
+        (is, (ap number is, ap place is, ap word is, ap count is, ap low is))
 
-    pub call_refuses_above_the_limit : limit < length ps → (search_answer off s level soft limit ≡ Refused 9 0) × Is (search_answer off s level soft limit) 9 0 0 0 (pos 0)
+    pub call_refuses_above_the_limit : limit < length ps → (search_answer off s level soft limit ≡ refused Spent 0) × Is (search_answer off s level soft limit) 9 0 0 0 (pos 0)
     unfolding outcome_answer
     call_refuses_above_the_limit l =
-        let refused : search_answer off s level soft limit ≡ Refused 9 0 =
+        let is : search_answer off s level soft limit ≡ refused Spent 0 =
         asked off refl s level soft limit allowed ∙ ap outcome_answer (is_spent_above_the_limit level allowed.level soft s w best limit (omega (arith, many))) in
-        (refused, (ap number refused, ap place refused, ap word refused, ap count refused, ap low refused))
+        (is, (ap number is, ap place is, ap word is, ap count is, ap low is))
 
     -- demand 3: "the search is spent exactly when that number would be above its limit"
     pub call_is_9_exactly_above_the_limit : (number (search_answer off s level soft limit) ≡ 9) ↔ (limit < length ps)
@@ -80,8 +81,8 @@ module _ (level : ℕ) (soft : List ℕ) (limit : ℕ) (allowed : Allowed level 
       given : Searchable short level
       given = searchable level allowed.level
 
-      found : (s : Search) → rank (trellis s short (level_values level) soft level) w ≤ limit → search_answer off s level soft limit ≡ Found (column_of w) (rank (trellis s short (level_values level) soft level) w) (low_point (sum (level_values level) soft) w)
-      found s l = asked off refl s level soft limit allowed ∙ ap outcome_answer (answers_within_the_limit level allowed.level soft s w best limit l)
+      is_found : (s : Search) → rank (trellis s short (level_values level) soft level) w ≤ limit → search_answer off s level soft limit ≡ found (column_of w) (rank (trellis s short (level_values level) soft level) w) (low_point (sum (level_values level) soft) w)
+      is_found s l = asked off refl s level soft limit allowed ∙ ap outcome_answer (answers_within_the_limit level allowed.level soft s w best limit l)
 
       differ : rank (trellis supercode short (level_values level) soft level) w ≡ rank (trellis whole short (level_values level) soft level) w + length ds
       differ = ranks_differ_by_the_dead_ahead short level given (level_values level) soft w best.codeword ∙ ap (λ (d : ℕ). rank (trellis whole short (level_values level) soft level) w + d) (sym (dead_ahead_counts short level given (level_values level) soft w ds dead))
@@ -90,8 +91,8 @@ module _ (level : ℕ) (soft : List ℕ) (limit : ℕ) (allowed : Allowed level 
           → (number (search_answer off whole level soft limit) ≡ 0) × (word (search_answer off whole level soft limit) ≡ word (search_answer off supercode level soft limit)) × (low (search_answer off whole level soft limit) ≡ low (search_answer off supercode level soft limit))
           × (count (search_answer off supercode level soft limit) ≡ count (search_answer off whole level soft limit) + length ds)
       go (yes l) =
-          let both = found supercode l in
-          let one = found whole (omega (arith, differ)) in
+          let both = is_found supercode l in
+          let one = is_found whole (omega (arith, differ)) in
           (ap number one, ap word one ∙ sym (ap word both), ap low one ∙ sym (ap low both), ap count both ∙ differ ∙ ap (λ (c : ℕ). c + length ds) (sym (ap count one)))
       go (no l) =
           let nine : number (search_answer off supercode level soft limit) ≡ 9 = ap number (asked off refl supercode level soft limit allowed ∙ ap outcome_answer (is_spent_above_the_limit level allowed.level soft supercode w best limit (omega arith))) in

@@ -30,13 +30,13 @@ use Rattle.trellis.proofs.Counts.{rank_counts, rank_is_a_number_of_paths, dead_a
 use Rattle.trellis.proofs.TwoWords as TwoWords
 use Rattle.trellis.proofs.Thresholds.{threshold_is_refused_exactly}
 use Rattle.questions.specs.Questions.{ask, first_above}
-use Rattle.searches.specs.Searches.{number, place, word, count, low, Is, Allowed, outcome_answer, search_answer}
-use Rattle.searches.specs.declared.SearchAnswer.{SearchAnswer}
-use Rattle.searches.specs.declared.SearchAnswer.TheVariants.{Found, Refused}
+use Rattle.questions.specs.Answer.{number, place, refused}
+use Rattle.questions.specs.declared.refusal.Question.TheVariants.{Range, Spent, Threshold}
+use Rattle.searches.specs.Searches.{SearchAnswer, found, word, count, low, Is, Allowed, outcome_answer, search_answer}
 use Rattle.store_searches.proofs.Calls.{asked}
 
 -- an answer in all its words
-told : (a : SearchAnswer) (w c : ℕ) (z : ℤ) → a ≡ Found w c z → Is a 0 0 w c z
+told : (a : SearchAnswer) (w c : ℕ) (z : ℤ) → a ≡ found w c z → Is a 0 0 w c z
 told a w c z e = (ap number e, ap place e, ap word e, ap count e, ap low e)
 
 module _ (level : ℕ) (soft : List ℕ) (limit : ℕ) (allowed : Allowed level soft limit) (threshold : ℤ) (in_range : threshold_allowed (on threshold) ≡ true) where
@@ -85,10 +85,10 @@ module _ (level : ℕ) (soft : List ℕ) (limit : ℕ) (allowed : Allowed level 
       pub list_call_refuses_above_the_limit : limit < length ps → Is call 9 0 0 0 (pos 0)
       unfolding outcome_answer with_key returned
       list_call_refuses_above_the_limit l =
-          let e : call ≡ Refused 9 0 = call_is (first_spent limit) (TwoWords.first_search_is_spent short level (searchable level allowed.level) (lit< tt) (level_values level) soft s w v best second threshold limit searched (omega (arith, many))) in
+          let e : call ≡ refused Spent 0 = call_is (first_spent limit) (TwoWords.first_search_is_spent short level (searchable level allowed.level) (lit< tt) (level_values level) soft s w v best second threshold limit searched (omega (arith, many))) in
           (ap number e, ap place e, ap word e, ap count e, ap low e)
 
-      module _ (found : length ps ≤ limit) where
+      module _ (in_limit : length ps ≤ limit) where
         found_by_rank : rank (trellis s short (level_values level) soft level) w ≤ limit
         found_by_rank = omega (arith, many)
 
@@ -97,7 +97,7 @@ module _ (level : ℕ) (soft : List ℕ) (limit : ℕ) (allowed : Allowed level 
         unfolding outcome_answer with_key returned
         first_word_is_returned enough =
             told call _ _ _ (call_is _ (TwoWords.first_word_stands short level (searchable level allowed.level) (lit< tt) (level_values level) soft s w v best second threshold limit searched found_by_rank enough)
-            ∙ ap (λ (c : ℕ). Found (column_of w) c (low_of w)) (sym many))
+            ∙ ap (λ (c : ℕ). found (column_of w) c (low_of w)) (sym many))
 
         -- else the second is sought: "the larger sum wins, the first on a tie", "Limit and count cover both words together."
         module _ (below : lt_z (sum_of w) threshold ≡ true) where
@@ -105,7 +105,7 @@ module _ (level : ℕ) (soft : List ℕ) (limit : ℕ) (allowed : Allowed level 
           unfolding outcome_answer with_key returned
           larger_of_the_two_is_returned l =
               told call _ _ _ (call_is _ (TwoWords.second_word_is_found short level (searchable level allowed.level) (lit< tt) (level_values level) soft s w v best second threshold limit searched found_by_rank below (omega (arith, many_to_the_second)))
-              ∙ ap (λ (c : ℕ). Found (column_of (larger sum_of w v)) c (low_of (larger sum_of w v))) (sym many_to_the_second))
+              ∙ ap (λ (c : ℕ). found (column_of (larger sum_of w v)) c (low_of (larger sum_of w v))) (sym many_to_the_second))
 
           -- "If the limit ends the second search, the first word stands and the count is the limit."
           pub first_word_stands_at_the_limit : limit < length qs → Is call 0 0 (column_of w) limit (low_of w)
@@ -161,9 +161,9 @@ module _ (level : ℕ) (soft : List ℕ) (limit : ℕ) (allowed : Allowed level 
 
   -- of a column that is searched: w is the first word and v the second, ps and qs the lists of their paths in the supercode search
   module _ (searched : Codeword short level (hard_path soft 30) → ⊥) (w : Path) (best : AheadOfAll short (level_values level) soft level w) (ps : List Path) (listed : Lists (Counted supercode short (level_values level) soft level w) ps)
-      (v : Path) (second : AheadOfAllBut short (level_values level) soft level w v) (qs : List Path) (second_listed : Lists (Counted supercode short (level_values level) soft level v) qs) (found : length ps ≤ limit) where
+      (v : Path) (second : AheadOfAllBut short (level_values level) soft level w v) (qs : List Path) (second_listed : Lists (Counted supercode short (level_values level) soft level v) qs) (in_limit : length ps ≤ limit) where
     found_too : rank (supercode_trellis short (level_values level) soft level) w ≤ limit
-    found_too = found_by_rank supercode searched w best ps listed v second qs second_listed found
+    found_too = found_by_rank supercode searched w best ps listed v second qs second_listed in_limit
 
     -- by the dead paths ahead of the first word, where no second was sought; ds is their list
     pub list_calls_differ_by_the_dead_ahead_of_the_first : lt_z (sum_of w) threshold ≡ false → (ds : List Path) → Lists (DeadAhead short (level_values level) soft level w) ds → DifferBy (length ds)
@@ -179,7 +179,7 @@ module _ (level : ℕ) (soft : List ℕ) (limit : ℕ) (allowed : Allowed level 
         calls_differ (length ds) (e.0, e.1 ∙ sym (dead_ahead_counts short level (searchable level allowed.level) (level_values level) soft v ds dead))
 
 -- no later question is 11
-never_11 : (b : Bool) (p : ℕ) (o : SearchResult WordFound) → number (ask b (Refused 5 p) (outcome_answer o)) ≡ 11 → ⊥
+never_11 : (b : Bool) (p : ℕ) (o : SearchResult WordFound) → number (ask b (refused Range p) (outcome_answer o)) ≡ 11 → ⊥
 unfolding outcome_answer
 never_11 false p o e = absurd (omega (arith, e))
 never_11 true p (answer w c) e = absurd (omega (arith, e))
@@ -189,12 +189,12 @@ never_11 true p (spent c) e = absurd (omega (arith, e))
 pub list_call_is_11_exactly_outside : (threshold : ℤ) (s : Search) (level : ℕ) (soft : List ℕ) (limit : ℕ) → length soft ≡ 30 → level < 4 → 1 ≤ limit → limit ≤ 2000
     → (number (search_answer (on threshold) s level soft limit) ≡ 11) ↔ (2000 < nat_abs threshold)
 list_call_is_11_exactly_outside threshold s level soft limit full in_level some most =
-    let asked_so : search_answer (on threshold) s level soft limit ≡ ask (threshold_allowed (on threshold)) (Refused 11 0) rest = rw (eq-eqb _ _ full, lt-ltb _ _ in_level, le-leb _ _ some, le-leb _ _ most) refl in
-    (λ e. outside (threshold_allowed (on threshold)) refl (ap number (sym asked_so) ∙ e), λ l. ap number (asked_so ∙ ap (λ (b : Bool). ask b (Refused 11 0) rest) ((threshold_is_refused_exactly threshold).1 l)))
+    let asked_so : search_answer (on threshold) s level soft limit ≡ ask (threshold_allowed (on threshold)) (refused Threshold 0) rest = rw (eq-eqb _ _ full, lt-ltb _ _ in_level, le-leb _ _ some, le-leb _ _ most) refl in
+    (λ e. outside (threshold_allowed (on threshold)) refl (ap number (sym asked_so) ∙ e), λ l. ap number (asked_so ∙ ap (λ (b : Bool). ask b (refused Threshold 0) rest) ((threshold_is_refused_exactly threshold).1 l)))
   where
     rest : SearchAnswer
-    rest = ask (leb 30 (first_above soft 7)) (Refused 5 (first_above soft 7)) (outcome_answer (searched_two s short (level_values level) threshold limit soft level))
+    rest = ask (leb 30 (first_above soft 7)) (refused Range (first_above soft 7)) (outcome_answer (searched_two s short (level_values level) threshold limit soft level))
 
-    outside : (b : Bool) → threshold_allowed (on threshold) ≡ b → number (ask b (Refused 11 0) rest) ≡ 11 → 2000 < nat_abs threshold
+    outside : (b : Bool) → threshold_allowed (on threshold) ≡ b → number (ask b (refused Threshold 0) rest) ≡ 11 → 2000 < nat_abs threshold
     outside true e n = absurd (never_11 (leb 30 (first_above soft 7)) (first_above soft 7) (searched_two s short (level_values level) threshold limit soft level) n)
     outside false e n = (threshold_is_refused_exactly threshold).0 e

@@ -1,16 +1,14 @@
--- The multiples of a word, one from the other, and f times the word by them. Assumes nothing.
+-- f times a word by its multiples. Assumes nothing.
 use mathlib.Core.Path.{◌≡◌, refl, sym, ap, ap₂, ◌∙◌, subst}
-use mathlib.Core.Logic.{⊎_elim}
 use mathlib.Core.List.{List}
-use Prim.Native.Nat.{ℕ, zero, suc, ◌+◌, ◌*◌, ◌/◌, ◌%◌, ◌^◌, ◌≤◌, ◌<◌}
+use Prim.Native.Nat.{ℕ, zero, suc, ◌+◌, ◌*◌, ◌/◌, ◌%◌, ◌^◌, ◌<◌}
 use native.Mathlib.Nat.{le-suc, le_trans, lt_irrefl, eq-or-lt_of_le, suc_inj, le_of_suc-le-suc}
 use native.Mathlib.Numerals.{add-one}
 use native.Mathlib.Omega.{arith}
 use lib.Bits.{bit_xor}
 use lib.Dec.{lit<}
-use lib.ListN.{length, get_or, set}
+use lib.ListN.{get_or}
 use lib.Pow.{pow_pos, shr-shr}
-use lib.Seq.{get_or-set_same, get_or-set_other}
 use native.Mathlib.Nat
 use Rattle.poly.specs.Polynomial.{add, scale}
 use Rattle.poly.proofs.Sum.{linear_zero, add_lt, scale_lt}
@@ -20,42 +18,9 @@ use Rattle.field.proofs.Ring.{mul_comm}
 use Rattle.field.proofs.Short.{field64}
 use Rattle.reedsolomon.specs.Sums.{sum}
 use Rattle.reedsolomon.proofs.Sums.{sum_first, sum_of_equals}
-use Rattle.syndromes.specs.Packed.{symbol_in, joined, SixWords, TimesAlpha, Multiples, multiple_in, multiple_of, IsGenerator}
+use Rattle.syndromes.specs.Packed.{symbol_in, joined, SixWords, Multiples, multiple_in, multiple_of, IsGenerator}
 use Rattle.syndromes.proofs.Packed.{symbol_of_sum, joined_sum}
 use Rattle.syndromes.proofs.ThreeWords.{Each, three_words}
-
--- ---- making them
-
-one_more : (ms : List ℕ) (k y : ℕ) → suc k < length ms → ((j : ℕ) → j < k → TimesAlpha (get_or ms j 0) (get_or ms (suc j) 0)) → TimesAlpha (get_or ms k 0) y
-    → (j : ℕ) → j < suc k → TimesAlpha (get_or (set ms (suc k) y) j 0) (get_or (set ms (suc k) y) (suc j) 0)
-one_more ms k y room before new j l =
-    ⊎_elim (λ e. subst (λ (i : ℕ). TimesAlpha (get_or (set ms (suc k) y) i 0) (get_or (set ms (suc k) y) (suc i) 0)) (sym (suc_inj e)) last)
-    (λ u. others j (le_of_suc-le-suc u)) (eq-or-lt_of_le l)
-  where
-    kept : (i : ℕ) → i ≤ k → get_or ms i 0 ≡ get_or (set ms (suc k) y) i 0
-    kept i u = sym (get_or-set_other ms (suc k) i y 0 (λ e. lt_irrefl k (omega (arith, e, u))))
-
-    last : TimesAlpha (get_or (set ms (suc k) y) k 0) (get_or (set ms (suc k) y) (suc k) 0)
-    last = subst (λ (x : ℕ). TimesAlpha x (get_or (set ms (suc k) y) (suc k) 0)) (kept k (omega arith)) (subst (TimesAlpha (get_or ms k 0)) (sym (get_or-set_same ms (suc k) y 0 room)) new)
-
-    others : (i : ℕ) → i < k → TimesAlpha (get_or (set ms (suc k) y) i 0) (get_or (set ms (suc k) y) (suc i) 0)
-    others i u = subst (λ (x : ℕ). TimesAlpha x (get_or (set ms (suc k) y) (suc i) 0)) (kept i (omega arith)) (subst (TimesAlpha (get_or ms i 0)) (kept (suc i) (omega arith)) (before i u))
-
--- entry k + 1 is written
-pub one_multiple_more : (ms : List ℕ) (k y : ℕ) → k + 1 < length ms → ((j : ℕ) → j < k → TimesAlpha (get_or ms j 0) (get_or ms (suc j) 0)) → TimesAlpha (get_or ms k 0) y
-    → (j : ℕ) → j < k + 1 → TimesAlpha (get_or (set ms (k + 1) y) j 0) (get_or (set ms (k + 1) y) (suc j) 0)
-one_multiple_more ms k y =
-    subst (λ (n : ℕ). n < length ms → ((j : ℕ) → j < k → TimesAlpha (get_or ms j 0) (get_or ms (suc j) 0)) → TimesAlpha (get_or ms k 0) y → (j : ℕ) → j < n → TimesAlpha (get_or (set ms n y) j 0) (get_or (set ms n y) (suc j) 0))
-    (sym (add-one k)) (one_more ms k y)
-
-pub all_multiples : (w : ℕ) (ms : List ℕ) → w < 2 ^ 60 → length ms ≡ 6 → get_or ms 0 0 ≡ w → ((j : ℕ) → j < 5 → TimesAlpha (get_or ms j 0) (get_or ms (suc j) 0)) → Multiples w ms
-all_multiples w ms h six first next = record { words = record { six = six; small = small }; first = first; next = next }
-  where
-    small : (k : ℕ) → k < 6 → get_or ms k 0 < 2 ^ 60
-    small zero l = subst (λ (x : ℕ). x < 2 ^ 60) (sym first) h
-    small (suc k) l = (next k (omega arith)).small
-
--- ---- using them
 
 -- one digit more
 pub one_digit_more : (p : ℕ → ℕ) (n f r s : ℕ) → r ≡ sum add 0 n (λ k. scale (f / 2 ^ k % 2) (p k)) → s ≡ scale (f / 2 ^ n % 2) (p n)

@@ -6,7 +6,7 @@ ghost use Rattle.reedsolomon.specs.ShortRows.{RowRoots};
 ghost use Rattle.reedsolomon.specs.Steps.{Written, IsRemainder};
 ghost use Rattle.syndromes.specs.Packed.{symbol_in, number_of, Full, SixWords, multiple_in, multiple_of, IsGenerator, TimesAlpha, Multiples};
 
-// Three words of ten symbols.
+// Three words of ten symbols; by name, since each is read with the one behind it: `[u64; 3]` would name them by numbers alone.
 #[derive(Drop)]
 struct Words {
     low: u64,
@@ -19,31 +19,27 @@ fn generator(t: usize) -> Words
     requires { RowRoots t }
     ensures { IsGenerator t (number_of result) × Full result }
 {
-    if t == 30 {
-        return Words {
+    match t {
+        30 => Words {
             low: 170355394578675485,
             middle: 884288516074723732,
             high: 316565068673506203,
-        };
-    }
-    if t == 12 {
-        return Words {
+        },
+        12 => Words {
             low: 52960207597130105,
             middle: 2593,
             high: 0,
-        };
-    }
-    if t == 6 {
-        return Words {
+        },
+        6 => Words {
             low: 64168358781,
             middle: 0,
             high: 0,
-        };
-    }
-    Words {
-        low: 12654430,
-        middle: 0,
-        high: 0,
+        },
+        _ => Words {
+            low: 12654430,
+            middle: 0,
+            high: 0,
+        },
     }
 }
 
@@ -118,11 +114,9 @@ fn symbols(words: Words, t: usize) -> [u8; 33]
 {
     let mut w = words;
     let mut r = [0u8; 33];
-    let mut i = 0;
-    while i < t {
+    for i in 0..t {
         r[i] = (w.low % 64) as u8;
         w = shifted(w);
-        i += 1;
     }
     r
 }
@@ -141,10 +135,8 @@ pub fn remainder(data: &[u8], t: usize) -> [u8; 33]
         middle: 0,
         high: 0,
     };
-    let mut k = 0;
-    while k < data.len() {
-        w = register_step(w, &low, &middle, &high, data[k]);
-        k += 1;
+    for &u in data {
+        w = register_step(w, &low, &middle, &high, u);
     }
     symbols(w, t)
 }

@@ -33,14 +33,7 @@ pub fn all_zero(a: &[u8], n: usize) -> bool
     requires { n ≤ length a.now }
     ensures { AllZero n a.now result }
 {
-    let mut i = 0;
-    while i < n {
-        if a[i] != 0 {
-            return false;
-        }
-        i += 1;
-    }
-    true
+    a[..n].iter().all(|&x| x == 0)
 }
 
 // f times the n entries of b from the entry `from` on are added to the first n of a.

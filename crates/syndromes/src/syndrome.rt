@@ -26,7 +26,7 @@ fn total(c: &[u8]) -> u8
 {
     let mut a: u8 = 0;
     for i in 0..16 {
-        a = a ^ c[i];
+        a ^= c[i];
     }
     a
 }
@@ -37,11 +37,9 @@ fn add_sums(w: [u8; 16], xs: [u8; 16], t: usize, s: &mut [u8])
     ensures { Written t (λ (i : ℕ). add (symbol s.old i) (locator_sum 6 67 16 (symbol w) (symbol xs) i)) s.old s.new }
 {
     let mut c = w;
-    let mut i = 0;
-    while i < t {
+    for i in 0..t {
         powered(&mut c, &xs);
-        s[i] = s[i] ^ total(&c);
-        i += 1;
+        s[i] ^= total(&c);
     }
 }
 
@@ -51,12 +49,10 @@ pub fn summed(s: [u8; 33], w: &[u8], xs: &[u8], k: usize, t: usize) -> [u8; 33]
     ensures { Summed 6 67 k t w.now xs.now s result }
 {
     let mut r = s;
-    let mut b = 0;
-    while b * 16 < k {
+    for b in 0..k.div_ceil(16) {
         let x = lists::block(w, b);
         let y = lists::block(xs, b);
         add_sums(x, y, t, &mut r);
-        b += 1;
     }
     r
 }

@@ -1,20 +1,20 @@
--- `blocks::fixed_byte` meets its contract: each return rewrites with the tests that led there. Assumes nothing.
-use Rattle.std.proofs.Common.{eq-eqb, ne_eqb}
+-- `blocks::fixed_byte` meets its contract: each arm rewrites with the test that led there. Assumes nothing.
+use Rattle.std.proofs.Common.{refl, ne_eqb, rules}
 use Rattle.dump.specs.Block.{fixed_byte}
 use Rattle.blocks.proofs.fixed_byte.Goals as goal
 
-pub returns-then-k-eq0 : goal.returns-then-k-eq0
+pub returns-in-0 : goal.returns-in-0
 unfolding fixed_byte
-returns-then-k-eq0 c = simp (eq-eqb _ _ c.if-k-eq0.true)
+returns-in-0 c = rw c.in-0.is refl
 
-pub returns-then-k-eq1 : goal.returns-then-k-eq1
+pub returns-in-1 : goal.returns-in-1
 unfolding fixed_byte
-returns-then-k-eq1 c = simp (ne_eqb _ _ c.if-k-eq0.false, eq-eqb _ _ c.if-k-eq1.true)
+returns-in-1 c = rw c.in-1.is refl
 
-pub returns-then-k-eq2 : goal.returns-then-k-eq2
+pub returns-in-2 : goal.returns-in-2
 unfolding fixed_byte
-returns-then-k-eq2 c = simp (ne_eqb _ _ c.if-k-eq0.false, ne_eqb _ _ c.if-k-eq1.false, eq-eqb _ _ c.if-k-eq2.true)
+returns-in-2 c = rw c.in-2.is refl
 
-pub returns : goal.returns
+pub returns-in_default : goal.returns-in_default
 unfolding fixed_byte
-returns c = simp (ne_eqb _ _ c.if-k-eq0.false, ne_eqb _ _ c.if-k-eq1.false, ne_eqb _ _ c.if-k-eq2.false)
+returns-in_default c = simp (ne_eqb c.args.k 0 (search rules), ne_eqb c.args.k 1 (search rules), ne_eqb c.args.k 2 (search rules))

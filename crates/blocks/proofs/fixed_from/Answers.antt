@@ -22,7 +22,7 @@ loop-k-preserved c =
     let at_loop = c in
     let args = at_loop.args in
     let told = c.fixed_byte in
-    (search rules, all_more (fixed_at args.block.now args.b args.start) at_loop.loop-k.k at_loop.loop-k.invariant.1 (eq-eqb _ _ (c.if-block-at.false ∙ told.ensures)))
+    (all_more (fixed_at args.block.now args.b args.start) at_loop.loop-k.k at_loop.loop-k.invariant (eq-eqb _ _ (c.if-block-at.false ∙ told.ensures)))
 
 pub returns : goal.returns
 unfolding fixed_from
@@ -30,4 +30,4 @@ returns c =
     let at_loop = c in
     let args = at_loop.args in
     let whole : at_loop.loop-k.k ≡ args.n = omega arith in
-    sym (ap (all_below (fixed_at args.block.now args.b args.start)) (sym whole) ∙ at_loop.loop-k.invariant.1)
+    sym (ap (all_below (fixed_at args.block.now args.b args.start)) (sym whole) ∙ at_loop.loop-k.invariant)

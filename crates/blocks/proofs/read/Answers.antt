@@ -1,4 +1,4 @@
-use Rattle.std.proofs.Common.{◌≡◌, ℕ, ◌+◌, ◌-◌, ◌*◌, ◌≤◌, length, take, drop, sym, ap, ◌∙◌, arith, take_all, rules}
+use Rattle.std.proofs.Common.{◌≡◌, ℕ, ◌+◌, ◌-◌, ◌*◌, ◌≤◌, length, take, drop, sym, ap, ◌∙◌, arith, take_all}
 use Rattle.dump.specs.Dump.{soft_of}
 use Rattle.dump.specs.Parts.{values_of}
 use Rattle.dump.proofs.Blocks.{soft_length, values_of_block}
@@ -25,9 +25,8 @@ loop-b-preserved c =
     let long : b * 480 + n ≤ length (soft_of dump) = omega (arith, soft_length dump) in
     let now_at : values_before b ≡ b * 480 = omega arith in
     let then_at : values_before (b + 1) ≡ b * 480 + n = omega arith in
-    let front : take (b * 480) out ≡ take (b * 480) (soft_of dump) = rw now_at at inv.2 in (
-      search rules,
-      put_length out (soft_of dump) made.new.to (b * 480) n room long part ∙ inv.1,
+    let front : take (b * 480) out ≡ take (b * 480) (soft_of dump) = rw now_at at inv.1 in (
+      put_length out (soft_of dump) made.new.to (b * 480) n room long part ∙ inv.0,
       rw then_at (put_more out (soft_of dump) made.new.to (b * 480) n room long part front),
     )
 
@@ -39,4 +38,4 @@ returns c =
     let b = at_loop.loop-b.b in
     let inv = at_loop.loop-b.invariant in
     let whole : values_before b ≡ 1890 = omega arith in
-    sym (take_all (values_before b) out (omega arith)) ∙ inv.2 ∙ take_all (values_before b) (soft_of dump) (omega (arith, soft_length dump))
+    sym (take_all (values_before b) out (omega arith)) ∙ inv.1 ∙ take_all (values_before b) (soft_of dump) (omega (arith, soft_length dump))

@@ -1,4 +1,4 @@
-use Rattle.std.proofs.Common.{◌≡◌, ◌+◌, ◌*◌, ◌≤◌, length, take, drop, sym, ◌∙◌, arith, take_all, rules}
+use Rattle.std.proofs.Common.{◌≡◌, ◌+◌, ◌*◌, ◌≤◌, length, take, drop, sym, ◌∙◌, arith, take_all}
 use Rattle.dump.specs.Dump.{dump_of, block_at}
 use Rattle.dump.proofs.Blocks.{dump_length, block_of_dump}
 use Rattle.packing.proofs.Put.{put_more, put_length}
@@ -18,9 +18,8 @@ loop-b-preserved c =
     let room : b * 512 + 512 ≤ length out = omega arith in
     let long : b * 512 + 512 ≤ length (dump_of soft) = omega (arith, dump_length soft) in
     let next : (b + 1) * 512 ≡ b * 512 + 512 = omega arith in (
-      search rules,
-      put_length out (dump_of soft) block (b * 512) 512 room long part ∙ inv.1,
-      rw next (put_more out (dump_of soft) block (b * 512) 512 room long part inv.2),
+      put_length out (dump_of soft) block (b * 512) 512 room long part ∙ inv.0,
+      rw next (put_more out (dump_of soft) block (b * 512) 512 room long part inv.1),
     )
 
 pub returns : goal.returns
@@ -29,5 +28,5 @@ returns c =
     let soft = at_loop.args.soft.now in
     let whole : at_loop.loop-b.b ≡ 4 = omega arith in
     sym (take_all (at_loop.loop-b.b * 512) at_loop.loop-b.out (omega arith))
-    ∙ at_loop.loop-b.invariant.2
+    ∙ at_loop.loop-b.invariant.1
     ∙ take_all (at_loop.loop-b.b * 512) (dump_of soft) (omega (arith, dump_length soft))

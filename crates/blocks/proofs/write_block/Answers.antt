@@ -1,4 +1,4 @@
-use Rattle.std.proofs.Common.{◌≡◌, ℕ, ◌/◌, ◌%◌, List, [], ◌∷◌, ◌++◌, length, take, sym, ap, ◌∙◌, ap₂, arith, length-set, rules}
+use Rattle.std.proofs.Common.{◌≡◌, ℕ, ◌/◌, ◌%◌, List, [], ◌∷◌, ◌++◌, get_or, take, sym, ap, ◌∙◌, arith, length-set, rules}
 use Rattle.dump.specs.Check.{check_of}
 use Rattle.dump.specs.Listed.{listed}
 use Rattle.dump.specs.Block.{body_byte, body_of, block_of}
@@ -16,13 +16,7 @@ loop-k-preserved c =
     let at_loop = c in
     let args = at_loop.args in
     let inv = at_loop.loop-k.invariant in
-    (search rules, simp length-set inv.1, filled_more (body_byte args.soft.now args.b) at_loop.loop-k.out at_loop.loop-k.k c.body_byte.result (omega arith) c.body_byte.ensures inv.2)
-
-pub shape_of-out : goal.shape_of-out
-shape_of-out c =
-    let at_loop = c in
-    let long : length at_loop.loop-k.out ≡ length at_loop.args.out.now = omega arith in
-    simp length-set long
+    (simp length-set inv.0, filled_more (body_byte args.soft.now args.b) at_loop.loop-k.out at_loop.loop-k.k c.body_byte.result (omega arith) c.body_byte.ensures inv.1)
 
 pub returns : goal.returns
 unfolding block_of
@@ -33,6 +27,8 @@ returns c =
     let out = at_loop.loop-k.out in
     let inv = at_loop.loop-k.invariant in
     let whole : at_loop.loop-k.k ≡ 510 = omega arith in
-    let front : take 510 out ≡ body_of soft args.b = ap (λ (n : ℕ). take n out) (sym whole) ∙ inv.2 ∙ ap (listed (body_byte soft args.b)) whole in
-    let sum : c.check_of-sum.result ≡ check_of (body_of soft args.b) = c.check_of-sum.ensures ∙ ap (λ (n : ℕ). n % 65536) (sym (weighted_take out 510)) ∙ ap check_of front in
-    last_two_set out 510 _ _ inv.1 ∙ ap₂ (λ (l : List ℕ) (n : ℕ). l ++ (n / 256 ∷ n % 256 ∷ [])) front sum
+    let front : take 510 out ≡ body_of soft args.b = ap (λ (n : ℕ). take n out) (sym whole) ∙ inv.1 ∙ ap (listed (body_byte soft args.b)) whole in
+    let sum : c.check_of.result ≡ check_of (body_of soft args.b) = c.check_of.ensures ∙ ap (λ (n : ℕ). n % 65536) (sym (weighted_take out 510)) ∙ ap check_of front in
+    let high : get_or c.to_be_bytes.result 0 0 ≡ check_of (body_of soft args.b) / 256 = ap (λ (l : List ℕ). get_or l 0 0) c.to_be_bytes.ensures ∙ omega (arith, sum) in
+    let low : get_or c.to_be_bytes.result 1 0 ≡ check_of (body_of soft args.b) % 256 = ap (λ (l : List ℕ). get_or l 1 0) c.to_be_bytes.ensures ∙ ap (λ (n : ℕ). n % 256) sum in
+    last_two_set out 510 _ _ inv.0 ∙ (λ i. front i ++ (high i ∷ low i ∷ []))

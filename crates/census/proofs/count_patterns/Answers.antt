@@ -4,12 +4,7 @@ use Rattle.census.proofs.Behind.{unflipped, from_the_start}
 use Rattle.census.proofs.count_patterns.Goals as goal
 
 pub count_from-requires : goal.count_from-requires
-count_from-requires c =
-    (c.requires.0, c.requires.1, unflipped c.args.level c.requires.2)
+count_from-requires c = (c.requires.0, unflipped c.args.level c.requires.1)
 
 pub returns : goal.returns
-returns c =
-    let args = c.args in record {
-      room = c.count_from.ensures.room;
-      value = c.count_from.ensures.value ∙ from_the_start args.level args.ones;
-    }
+returns c = c.count_from.ensures ∙ from_the_start c.args.level c.args.ones

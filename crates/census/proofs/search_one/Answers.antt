@@ -1,32 +1,30 @@
 -- `census::search_one` meets its contract: the answer of the supercode search settles which total is one. Assumes nothing.
+use mathlib.Core.Path.{sym, ap, ◌∙◌}
 use native.Mathlib.Omega.{arith}
-use Rattle.census.proofs.Endings.{allowed_with, ends_in_zero, ends_in_another, ends_spent}
+use borrow.Author.Tests.{eq-eqb, ne_eqb}
+use mathlib.Core.Bool.{Bool, cond}
+use Rattle.census.specs.Census.{zero_word, other_word}
+use Rattle.census.proofs.Endings.{allowed_with, ending_of_answer, one, by_answer}
 use Rattle.census.proofs.search_one.Goals as goal
 
 pub search_supercodes-requires : goal.search_supercodes-requires
 search_supercodes-requires c =
-    (c.requires.0, c.requires.1, allowed_with c.requires.2 (omega arith) (omega arith))
+    (c.requires.0, allowed_with c.requires.1 (omega arith) (omega arith))
 
-pub returns-then-word-eq0 : goal.returns-then-word-eq0
-returns-then-word-eq0 c =
-    let found = c.search_supercodes in
-    let args = c.args in record {
-      room = found.ensures.room;
-      value = ends_in_zero args.level args.column.now found.result found.ensures.value _ _ _ c.in-Found.is c.if-word-eq0.true;
-    }
+pub returns-in-Ok : goal.returns-in-Ok
+unfolding ending_of_answer one
+returns-in-Ok c =
+    let none = c.default.ensures in
+    simp (none.0, none.1.0, none.1.1) (ap (λ (b : Bool). one (cond b zero_word other_word)) (sym (eq-eqb _ 0 c.if-found-eq0.true)) ∙ by_answer c.args.level c.args.column.now _ c.search_supercodes.ensures _ c.in-Ok.is)
 
-pub returns-else-word-eq0 : goal.returns-else-word-eq0
-returns-else-word-eq0 c =
-    let found = c.search_supercodes in
-    let args = c.args in record {
-      room = found.ensures.room;
-      value = ends_in_another args.level args.column.now found.result found.ensures.value _ _ _ c.in-Found.is c.if-word-eq0.false;
-    }
+pub returns-in-Ok-2 : goal.returns-in-Ok-2
+unfolding ending_of_answer one
+returns-in-Ok-2 c =
+    let none = c.default-in-Ok-2.ensures in
+    simp (none.0, none.1.0, none.1.1) (ap (λ (b : Bool). one (cond b zero_word other_word)) (sym (ne_eqb _ 0 c.if-found-eq0.false)) ∙ by_answer c.args.level c.args.column.now _ c.search_supercodes.ensures _ c.in-Ok.is)
 
-pub returns-in-Refused : goal.returns-in-Refused
-returns-in-Refused c =
-    let found = c.search_supercodes in
-    let args = c.args in record {
-      room = found.ensures.room;
-      value = ends_spent args.level args.column.now found.result found.ensures.value _ _ c.in-Refused.is;
-    }
+pub returns-in-Err : goal.returns-in-Err
+unfolding ending_of_answer one
+returns-in-Err c =
+    let none = c.default-in-Err.ensures in
+    simp (none.0, none.1.0, none.1.1) (by_answer c.args.level c.args.column.now _ c.search_supercodes.ensures _ c.in-Err.is)

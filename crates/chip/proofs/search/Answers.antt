@@ -1,82 +1,51 @@
 use Prim.Native.Nat.{◌+◌}
-use mathlib.Core.Bool.{Bool}
-use mathlib.Core.Path.{sym, ap, ap₂, ◌∙◌}
 use lib.IntN.{ℤ}
-use mir.Syntax.{w16}
-use mir.Facts.{to_z-of_z}
-use Rattle.search.specs.declared.SearchOutcome.TheVariants.{Found, Spent}
-use Rattle.chip.proofs.Growth.{stepped_at, crowded_is}
-use Rattle.chip.proofs.Loop.{ended_with, going_start, going_at, going_next, found_is, emptied_is, spent_is, contract}
+use mathlib.Core.Path.{sym, ap, ap₂, ◌∙◌}
 use native.Mathlib.Omega.{arith}
 use borrow.Author.Rules.{rules}
+use Rattle.std.specs.Prelude.{None, Some}
+use Rattle.paths.specs.Bounded.{Bounded}
+use Rattle.trellis.specs.Keys.{Key}
+use Rattle.stack.specs.Places.{path_key}
+use Rattle.chip.proofs.Placed.{standing_of}
+use Rattle.chip.proofs.Growth.{crowded_is}
+use Rattle.chip.proofs.Loop.{ended_with, lower_of, pushed_before, pushed_now, going_next, found_is, emptied_is, spent_is, contract}
 use Rattle.chip.proofs.search.Goals as goal
 
-pub loop-count-init : goal.loop-count-init
-loop-count-init c =
-    (c.requires.places, going_start c.args.n c.args.values.now c.args.col.now c.args.left.now c.args.right.now c.args.limit c.requires.given.some _)
+pub returns-in_default : goal.returns-in_default
+returns-in_default c vs tb =
+    let t = c.args.trellis.now in
+    contract t.n t.values.now t.col.now t.left.now t.right.now c.args.limit vs c.requires.given tb _
+    (ap (λ (s : Bounded Key). ended_with None c.loop-count.count s.any_pushed_out) c.stack.view_is ∙ emptied_is t.n t.values.now t.col.now t.left.now t.right.now c.args.limit _ _ _ _ _ c.loop-count-test.true c.loop-count.invariant c.in_default.ensures)
 
-pub advance-t-requires : goal.advance-t-requires
-advance-t-requires c =
-    let v = c.loop-count.invariant in
-    record {
-      paths_bound = (v.1.few, v.1.part);
-      given = c.requires.given;
-      leading = c.requires.leading;
-      good = v.1.good;
-      places = v.0;
-      ordered = v.1.ordered;
-      every = v.1.held;
-    }
-
-pub returns-then-l-eq0 : goal.returns-then-l-eq0
-returns-then-l-eq0 c =
-    let d = stepped_at _ _ _ _ _ _ _ _ _ _ _ (record { sfits = search rules }) c.advance-t.ensures.stepped in
-    let v = c.loop-count.invariant in
-    record {
-      places_2 = c.advance-t.ensures.places_2;
-      value = λ vs tb. contract c.args.n c.args.values.now c.args.col.now c.args.left.now c.args.right.now c.args.limit vs c.requires.given tb _
-          (ap (λ (b : Bool). ended_with Spent c.loop-count.count b) c.either-pushed.ensures ∙ emptied_is c.args.n c.args.values.now c.args.col.now c.args.left.now c.args.right.now c.args.limit _ _ _ _ _ _ _ _ _ _ c.loop-count-test.true d v.1 c.if-l-eq0.true);
-    }
-
-pub overflow_add-count : goal.overflow_add-count
-overflow_add-count c =
-    omega (arith, c.loop-count-test.true, c.ranges.limit)
-
-pub returns-then-l-n : goal.returns-then-l-n
-returns-then-l-n c =
-    let d = stepped_at _ _ _ _ _ _ _ _ _ _ _ (record { sfits = search rules }) c.advance-t.ensures.stepped in
-    let v = c.loop-count.invariant in
-    record {
-      places_2 = c.advance-t.ensures.places_2;
-      value = λ vs tb. contract c.args.n c.args.values.now c.args.col.now c.args.left.now c.args.right.now c.args.limit vs c.requires.given tb _
-          (ap₂ (λ (z : ℤ) (b : Bool). ended_with (Found c.advance-t.result.bits (c.loop-count.count + 1) z) (c.loop-count.count + 1) b) (to_z-of_z {w = w16} (record { sfits = c.lower-low.type_inv }) ∙ c.lower-low.ensures) c.either-pushed.ensures
-          ∙ found_is c.args.n c.args.values.now c.args.col.now c.args.left.now c.args.right.now c.args.limit _ _ _ _ _ _ _ _ _ _ c.loop-count-test.true d v.1 c.if-l-eq0.false c.if-l-n.true);
-    }
-
-pub loop-count-smaller : goal.loop-count-smaller
-loop-count-smaller c =
-    omega (arith, c.loop-count-test.true)
+pub returns-then-path-trellis : goal.returns-then-path-trellis
+returns-then-path-trellis c vs tb =
+    let t = c.args.trellis.now in
+    let low = lower_of _ c.in-Some.path.sum _ (record { sfits = search rules }) (record { sfits = c.min-low.type_inv }) c.min-low.ensures.value in
+    contract t.n t.values.now t.col.now t.left.now t.right.now c.args.limit vs c.requires.given tb _
+    (ap₂ (λ (z : ℤ) (s : Bounded Key). ended_with (Some (record { word = c.in-Some.path.bits; count = c.loop-count.count + 1; low = z })) (c.loop-count.count + 1) s.any_pushed_out) low c.stack.view_is
+    ∙ found_is t.n t.values.now t.col.now t.left.now t.right.now c.args.limit _ _ _ _ _ c.loop-count-test.true c.loop-count.invariant _ c.in-Some.ensures c.if-path-trellis.true)
 
 pub loop-count-preserved : goal.loop-count-preserved
 loop-count-preserved c =
-    let d = stepped_at _ _ _ _ _ _ _ _ _ _ _ (record { sfits = search rules }) c.advance-t.ensures.stepped in
-    let v = c.loop-count.invariant in (
-      c.advance-t.ensures.places_2,
-      going_at _ _ _ _ _ _ _ _ _ _ _ c.either-pushed.ensures (record { sfits = c.lower-low.type_inv }) c.lower-low.ensures
-          (going_next c.args.n c.args.values.now c.args.col.now c.args.left.now c.args.right.now c.args.limit _ _ _ _ _ _ _ _ _ _ c.loop-count-test.true d v.1 c.if-l-eq0.false c.if-l-n.false),
-    )
+    let t = c.args.trellis.now in
+    let low = lower_of _ c.in-Some.path.sum _ (record { sfits = search rules }) (record { sfits = c.min-low.type_inv }) c.min-low.ensures.value in
+    rw low (going_next t.n t.values.now t.col.now t.left.now t.right.now c.args.limit _ _ _ _ _ c.loop-count-test.true c.loop-count.invariant _ c.in-Some.ensures c.if-path-trellis.false)
 
-pub crowds-last-requires : goal.crowds-last-requires
-crowds-last-requires c =
-    let v = c.loop-count.invariant in
-    (omega (arith, v.1.part, c.requires.given.lefts), omega (arith, v.1.part, c.requires.given.rights))
+pub returns-then-stack : goal.returns-then-stack
+returns-then-stack c vs tb =
+    let t = c.args.trellis.now in
+    contract t.n t.values.now t.col.now t.left.now t.right.now c.args.limit vs c.requires.given tb _
+    (spent_is t.n t.values.now t.col.now t.left.now t.right.now c.args.limit _ _ _ _ _ (omega (arith, c.loop-count-test.false, c.loop-count.auto.count-end)) c.loop-count.invariant
+    (pushed_before _ _ _ (ap (λ (s : Bounded Key). s.any_pushed_out) c.stack-2.view_is) c.if-stack.true))
 
-pub returns : goal.returns
-returns c =
+pub returns-else-stack : goal.returns-else-stack
+returns-else-stack c vs tb =
+    let t = c.args.trellis.now in
     let v = c.loop-count.invariant in
-    record {
-      places_2 = v.0;
-      value = λ vs tb. contract c.args.n c.args.values.now c.args.col.now c.args.left.now c.args.right.now c.args.limit vs c.requires.given tb _
-          (ap (λ (b : Bool). ended_with Spent c.loop-count.count b) c.either.ensures ∙ spent_is c.args.n c.args.values.now c.args.col.now c.args.left.now c.args.right.now c.args.limit _ _ _ _ _ _ _ c.loop-count-test.false v.1
-          (c.crowds-last.ensures ∙ sym (crowded_is c.args.n c.args.col.now c.args.left.now c.args.right.now c.args.values.now c.requires.given c.requires.leading _ _ _ v.1.part v.1.good _ _ v.1.few v.1.held v.1.ordered)));
-    }
+    contract t.n t.values.now t.col.now t.left.now t.right.now c.args.limit vs c.requires.given tb _
+    (spent_is t.n t.values.now t.col.now t.left.now t.right.now c.args.limit _ _ _ _ _ (omega (arith, c.loop-count-test.false, c.loop-count.auto.count-end)) v
+    (pushed_now _ _ _ _ (ap (λ (s : Bounded Key). s.any_pushed_out) c.stack-2.view_is) c.if-stack.false
+    (c.crowds.ensures
+    ∙ sym (crowded_is t.n t.col.now t.left.now t.right.now t.values.now c.requires.given c.requires.leading (path_key c.loop-count.last) v.part v.good c.loop-count.stack.any_pushed_out c.loop-count.stack.stack
+    (standing_of _ _ _ _ c.stack-2.view_is c.stack-2.invariant.0 c.stack-2.invariant.1) v.held))))

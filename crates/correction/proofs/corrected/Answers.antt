@@ -23,24 +23,24 @@ error_locations-flags-requires c =
 
 pub polynomial-g-requires : goal.polynomial-g-requires
 polynomial-g-requires c =
-    let few = few_locations _ _ _ _ _ _ _ c.requires.1 c.requires.2 c.requires.3 c.error_locations-flags.ensures c.locators_of-f.ensures in
+    let few = few_locations _ _ _ _ _ _ _ c.requires.1 c.requires.2 c.requires.3 c.error_locations-flags.ensures c.locators_of-k.ensures in
     (omega (arith, few), omega (arith, few))
 
 pub all_magnitudes-ys-requires : goal.all_magnitudes-ys-requires
 all_magnitudes-ys-requires c =
-    let few = few_locations _ _ _ _ _ _ _ c.requires.1 c.requires.2 c.requires.3 c.error_locations-flags.ensures c.locators_of-f.ensures in
+    let few = few_locations _ _ _ _ _ _ _ c.requires.1 c.requires.2 c.requires.3 c.error_locations-flags.ensures c.locators_of-k.ensures in
     (omega (arith, few), omega arith, omega (arith, few), omega arith)
 
 pub summed-syndromes-requires : goal.summed-syndromes-requires
 summed-syndromes-requires c =
-    let few = few_locations _ _ _ _ _ _ _ c.requires.1 c.requires.2 c.requires.3 c.error_locations-flags.ensures c.locators_of-f.ensures in
+    let few = few_locations _ _ _ _ _ _ _ c.requires.1 c.requires.2 c.requires.3 c.error_locations-flags.ensures c.locators_of-k.ensures in
     (omega (arith, few), omega (arith, c.requires.1), omega arith, omega arith, c.all_magnitudes-ys.ensures.1)
 
 pub returns : goal.returns
 returns c =
     let a = c.args in
     let flags = c.error_locations-flags in
-    let p = c.locators_of-f in
+    let p = c.locators_of-k in
     let g = c.polynomial-g in
     let ys = c.all_magnitudes-ys in
     let v = c.added-symbols in

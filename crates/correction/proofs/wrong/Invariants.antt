@@ -1,13 +1,9 @@
 -- `correction::wrong` meets its contract: one column a turn of the loop. Assumes nothing.
 use mathlib.Core.Path.{◌≡◌}
-use Prim.Native.Nat.{◌-◌, ◌≤◌}
 use native.Mathlib.Decide.{ℕ_discrete}
 use Rattle.reedsolomon.specs.Words.{errors}
 use Rattle.reedsolomon.specs.Row.{symbol, marked}
 use Rattle.correction.proofs.wrong.Given as goal
 
 abbrev pub invariant-loop-j : goal.invariant-loop-j
-invariant-loop-j l = (l.j ≤ 63) × (l.e ≡ errors ℕ_discrete (marked l.marks) l.j (symbol l.w) (symbol l.v))
-
-abbrev pub decreases-loop-j : goal.decreases-loop-j
-decreases-loop-j l = 63 - l.j
+invariant-loop-j l = l.e ≡ errors ℕ_discrete (marked l.marks) l.j (symbol l.w) (symbol l.v)

@@ -1,209 +1,93 @@
 -- `extension::advance` meets its contract. By the path's case: full, with no check, dead, or with the one bit that the checks ask for. Assumes nothing.
-use Prim.Native.Nat.{ℕ, ◌+◌, ◌-◌, ◌*◌, ◌<◌}
-use mathlib.Core.Path.{◌≡◌, refl, sym, ◌∙◌, subst⁻¹}
+use Prim.Native.Nat.{ℕ, suc, ◌+◌, ◌-◌, ◌*◌, ◌<◌}
+use mathlib.Core.Path.{◌≡◌, refl, sym, ap, ◌∙◌, subst⁻¹}
+use native.Mathlib.Omega.{arith}
 use lib.IntN.{ℤ, pos, ◌+ℤ◌}
 use lib.ListN.{get_or}
 use mir.Syntax.{w16}
-use mir.Val.{to_z, of_z, SFits}
+use mir.Val.{SFits, to_z, of_z}
+use mir.Facts.{to_z-of_z}
 use Rattle.trellis.specs.Keys.{key}
-use Rattle.extension.specs.Steps.{Good, Held, table_extension}
-use Rattle.stack.proofs.Sums.{sum_fits, sum_back}
+use Rattle.stack.specs.declared.Path.{Path}
+use Rattle.stack.specs.Places.{path_key, Small}
+use Rattle.extension.specs.Steps.{Good, table_extension}
+use Rattle.extension.specs.Lent.{GivenBy}
+use Rattle.extension.specs.declared.Trellis.{Trellis}
 use Rattle.extension.proofs.NextBit.{bit_less}
-use Rattle.extension.proofs.Advances.{good_small, held_small, good_double, risen_held, flag, sum_near, extension_is, held_extension, advanced_at, advanced_full, advanced_both, advanced_dead, advanced_one}
-use native.Mathlib.Omega.{arith}
-use borrow.Author.Rules.{rules}
-use Rattle.extension.proofs.advance.Goals.{After-asked_bit-bit, Else-l-n}
+use Rattle.extension.proofs.Advances.{good_small, flag, extension_is, held_extension, advanced_full, advanced_both, advanced_dead, advanced_one}
 use Rattle.extension.proofs.advance.Goals as goal
+use Rattle.extension.proofs.advance.Goals.{Else-path-trellis, After-asked_bit-bit}
 
-less : (e : Else-l-n) → e.args.l < e.args.n
-less e = let a = e in omega (arith, e.if-l-n.false, a.requires.good.short)
+module _ (t : Trellis) (given : GivenBy t) (p : Path) (good : Good t.n (path_key p)) (less : p.len < t.n) where
+  -- the code's extension is the specification's
+  extended : (v : ℤ) (b : ℕ) (y : Path) → SFits w16 v → b < 2 → v ≡ get_or t.values.now (b * 8 + get_or t.col.now p.len 0) (pos 0)
+      → path_key y ≡ key (p.sum +ℤ to_z w16 (of_z w16 v)) (suc p.len) (p.bits * 2 + b) → path_key y ≡ table_extension t.values.now t.col.now (flag b) (path_key p)
+  extended v b y fits few is e =
+      e ∙ ap (λ (x : ℤ). key (p.sum +ℤ x) (suc p.len) (p.bits * 2 + b)) (to_z-of_z fits)
+      ∙ extension_is t.n t.col.now t.left.now t.right.now t.values.now given (path_key p) v b few is
 
-double : (e : Else-l-n) → e.args.b < 2199023255552
-double e =
-    let a = e in
-    good_double a.args.n (key a.args.s a.args.l a.args.b) a.requires.given.most (less e) a.requires.good
+  small : (b : ℕ) (y : Path) → path_key y ≡ table_extension t.values.now t.col.now (flag b) (path_key p) → Small (path_key y)
+  small b y e =
+      good_small t.n _ given.most (subst⁻¹ (Good t.n) e (held_extension t.n t.col.now t.left.now t.right.now t.values.now given (path_key p) (flag b) less good).good)
 
--- a value added to the sum fits
-added : (e : Else-l-n) (v : ℤ) (t : ℕ) → t < 2 → v ≡ get_or e.args.values.now (t * 8 + get_or e.args.col.now e.args.l 0) (pos 0) → SFits w16 (e.args.s +ℤ v)
-added e v t h k =
-    let a = e in
-    sum_near a.args.n a.args.col.now a.args.left.now a.args.right.now a.args.values.now a.requires.given a.args.s v a.args.l a.args.b t (less e) h a.requires.good k
+less_than : (c : Else-path-trellis) → c.args.path.len < c.args.trellis.now.n
+less_than c = omega (arith, c.if-path-trellis.false, c.requires.good.short)
 
--- the code's extension is the specification's
-extended : (e : Else-l-n) (v : ℤ) (t : ℕ) → t < 2 → v ≡ get_or e.args.values.now (t * 8 + get_or e.args.col.now e.args.l 0) (pos 0) → SFits w16 v
-    → key (to_z w16 (of_z w16 (to_z w16 (of_z w16 e.args.s) +ℤ to_z w16 (of_z w16 v)))) (e.args.l + 1) (e.args.b * 2 + t)
-    ≡ table_extension e.args.values.now e.args.col.now (flag t) (key e.args.s e.args.l e.args.b)
-extended e v t h k f =
-    let a = e in
-    extension_is a.args.n a.args.col.now a.args.left.now a.args.right.now a.args.values.now a.requires.given a.args.s v _ a.args.l a.args.b t h k
-    (sum_back a.args.s v a.ranges.s f (added e v t h k))
+asked_below : (c : After-asked_bit-bit) → c.asked_bit-bit.result < 2
+asked_below c = omega (arith, c.asked_bit-bit.ensures, bit_less c.parity_under-u.result c.parity_under-v.result c.parity_under-v.ensures.1)
 
-held_extended : (e : Else-l-n) (t : ℕ) → Held e.args.n (table_extension e.args.values.now e.args.col.now (flag t) (key e.args.s e.args.l e.args.b))
-held_extended e t =
-    let a = e in
-    held_extension a.args.n a.args.col.now a.args.left.now a.args.right.now a.args.values.now a.requires.given (key a.args.s a.args.l a.args.b) (flag t) (less e) a.requires.good
+pub returns-then-path-trellis : goal.returns-then-path-trellis
+returns-then-path-trellis c =
+    let t = c.args.trellis.now in
+    advanced_full t.n t.col.now t.left.now t.right.now t.values.now c.requires.given _ _ _ _ _ _ c.if-path-trellis.true c.requires.every c.pop.ensures
 
-asked_below : (ab : After-asked_bit-bit) → ab.asked_bit-bit.result < 2
-asked_below ab =
-    let second = ab in
-    omega (arith, ab.asked_bit-bit.ensures, bit_less second.parity_under-u.result second.parity_under-v.result second.parity_under-v.ensures.1)
+pub push-requires-clause-small : goal.push-requires-clause-small
+push-requires-clause-small c =
+    let less = less_than (goal.at.push-requires-clause-small c).Else-path-trellis in
+    small c.args.trellis.now c.requires.given c.args.path c.requires.good less (1 - c.read_bit-bit.result) c.extended.result
+    (extended c.args.trellis.now c.requires.given c.args.path c.requires.good less _ _ _ (record { sfits = c.other_value.type_inv }) (omega arith) c.other_value.ensures c.extended.ensures)
 
-pub take_next-requires : goal.take_next-requires
-take_next-requires c =
-    let a = c in record {
-      paths_bound = omega (arith, a.requires.paths_bound);
-      room = a.requires.room;
-      heap = a.requires.heap;
-      every = held_small a.args.n a.requires.given.most _ a.args.paths a.requires.every;
-    }
-
-pub returns-then-l-n : goal.returns-then-l-n
-returns-then-l-n c =
-    let i = c in
-    let a = i in record {
-      room_2 = c.take_next.ensures.room_2;
-      advanced = advanced_full a.args.n a.args.col.now a.args.left.now a.args.right.now a.args.values.now a.requires.given _ _ a.args.paths _ (key a.args.s a.args.l a.args.b) _ i.if-l-n.true a.requires.every c.take_next.ensures.next;
-    }
-
-pub overflow_mul-c : goal.overflow_mul-c
-overflow_mul-c c = omega (arith, double (goal.at.overflow_mul-c c).Else-l-n)
-
-pub value_of-requires : goal.value_of-requires
-value_of-requires c =
-    let e = (goal.at.value_of-requires c).Else-l-n in
-    let a = e in
-    (a.requires.given.soft a.args.l (less e), c.read_bit-bit.ensures.0, a.requires.given.entries)
-
-pub overflow_add-sb : goal.overflow_add-sb
-overflow_add-sb c =
-    let e = (goal.at.overflow_add-sb c).Else-l-n in
-    sum_fits _ _ e.ranges.s (record { sfits = c.value_of.type_inv }) (added e _ c.read_bit-bit.result c.read_bit-bit.ensures.0 c.value_of.ensures)
-
-pub other_value-requires : goal.other_value-requires
-other_value-requires c =
-    let e = (goal.at.other_value-requires c).Else-l-n in
-    let a = e in
-    (a.requires.given.soft a.args.l (less e), c.read_bit-bit.ensures.0, a.requires.given.entries)
-
-pub overflow_add-so : goal.overflow_add-so
-overflow_add-so c =
-    let e = (goal.at.overflow_add-so c).Else-l-n in
-    sum_fits _ _ e.ranges.s (record { sfits = c.other_value.type_inv }) (added e _ (1 - c.read_bit-bit.result) (omega arith) c.other_value.ensures)
-
-pub overflow_add-cb : goal.overflow_add-cb
-overflow_add-cb c =
-    let e = (goal.at.overflow_add-cb c).Else-l-n in
-    omega (arith, double e, c.read_bit-bit.ensures.0)
-
-pub overflow_add-co : goal.overflow_add-co
-overflow_add-co c =
-    let e = (goal.at.overflow_add-co c).Else-l-n in
-    omega (arith, double e)
-
-pub exchange-p-requires : goal.exchange-p-requires
-exchange-p-requires c =
-    let rs = c in
-    let v2 = rs in
-    let v1 = v2 in
-    let rd = v1 in
-    let e = (goal.at.exchange-p-requires c).Else-l-n in
-    let a = e in
-    let n = a.args.n in
-    let most = a.requires.given.most in
-    let kt = extended e v1.value_of.result rd.read_bit-bit.result rd.read_bit-bit.ensures.0 v1.value_of.ensures (record { sfits = v1.value_of.type_inv }) in
-    let ku = extended e v2.other_value.result (1 - rd.read_bit-bit.result) (omega arith) v2.other_value.ensures (record { sfits = v2.other_value.type_inv }) in record {
-      paths_bound = omega (arith, a.requires.paths_bound);
-      room = rs.rise.ensures.room_2;
-      heap = rs.rise.ensures.heap_2;
-      every = held_small n most _ (a.args.paths + 1) (risen_held n _ _ a.args.paths _ rs.rise.ensures.by_index (subst⁻¹ (Held n) ku (held_extended e (1 - rd.read_bit-bit.result))) a.requires.every);
-      small = good_small n _ most (subst⁻¹ (Good n) kt (held_extended e rd.read_bit-bit.result).good);
+pub exchange-requires : goal.exchange-requires
+exchange-requires c =
+    let less = less_than (goal.at.exchange-requires c).Else-path-trellis in record {
+      small = small c.args.trellis.now c.requires.given c.args.path c.requires.good less c.read_bit-bit.result _
+          (extended c.args.trellis.now c.requires.given c.args.path c.requires.good less _ _ _ (record { sfits = c.value_of.type_inv }) c.read_bit-bit.ensures.0 c.value_of.ensures c.extended-then-unchecked.ensures);
     }
 
 pub returns-then-unchecked : goal.returns-then-unchecked
 returns-then-unchecked c =
-    let rs = c in
-    let v2 = rs in
-    let v1 = v2 in
-    let rd = v1 in
-    let un = rd in
-    let e = (goal.at.returns-then-unchecked c).Else-l-n in
-    let a = e in
-    let t = rd.read_bit-bit.result in
-    let kt = extended e v1.value_of.result t rd.read_bit-bit.ensures.0 v1.value_of.ensures (record { sfits = v1.value_of.type_inv }) in
-    let ku = extended e v2.other_value.result (1 - t) (omega arith) v2.other_value.ensures (record { sfits = v2.other_value.type_inv }) in record {
-      room_2 = c.exchange-p.ensures.room_2;
-      advanced = advanced_at _ _ _ _ _ _ _ _ _ _ (record { sfits = search rules })
-          (advanced_both a.args.n a.args.col.now a.args.left.now a.args.right.now a.args.values.now a.requires.given a.args.s a.args.l a.args.b (less e) a.requires.good _ _ a.args.paths a.requires.every
-          _ t (1 - t) _ _ _ (sym un.unchecked.ensures ∙ rd.if-unchecked.true) rd.read_bit-bit.ensures.0 refl kt ku rs.rise.ensures.by_index c.exchange-p.ensures.out);
-    }
-
-pub take_next-requires-then-conflicting : goal.take_next-requires-then-conflicting
-take_next-requires-then-conflicting c =
-    let e = c in
-    let a = e in record {
-      paths_bound = omega (arith, a.requires.paths_bound);
-      room = a.requires.room;
-      heap = a.requires.heap;
-      every = held_small a.args.n a.requires.given.most _ a.args.paths a.requires.every;
-    }
+    let t = c.args.trellis.now in
+    let less = less_than (goal.at.returns-then-unchecked c).Else-path-trellis in
+    let bit = c.read_bit-bit.result in
+    let other = extended t c.requires.given c.args.path c.requires.good less _ (1 - bit) _ (record { sfits = c.other_value.type_inv }) (omega arith) c.other_value.ensures c.extended.ensures in
+    let read = extended t c.requires.given c.args.path c.requires.good less _ bit _ (record { sfits = c.value_of.type_inv }) c.read_bit-bit.ensures.0 c.value_of.ensures c.extended-then-unchecked.ensures in
+    rw (c.exchange.ensures.paths, c.push.ensures.paths)
+    (advanced_both t.n t.col.now t.left.now t.right.now t.values.now c.requires.given (path_key c.args.path) less c.requires.good _ _ c.args.stack.now.paths c.requires.every
+    _ bit (1 - bit) _ _ _ (sym c.unchecked.ensures ∙ c.if-unchecked.true) c.read_bit-bit.ensures.0 refl read other (rw c.push.ensures.paths at c.push.ensures.by_index) (rw (c.exchange.ensures.paths, c.push.ensures.paths) at c.exchange.ensures.out))
 
 pub returns-then-conflicting : goal.returns-then-conflicting
 returns-then-conflicting c =
-    let i = c in
-    let cf = i in
-    let p2 = cf in
-    let p1 = p2 in
-    let e = (goal.at.returns-then-conflicting c).Else-l-n in
-    let a = e in record {
-      room_2 = c.take_next-then-conflicting.ensures.room_2;
-      advanced = advanced_dead a.args.n a.args.col.now a.args.left.now a.args.right.now a.args.values.now a.requires.given a.args.s a.args.l a.args.b (less e) a.requires.good _ _ a.args.paths a.requires.every
-          p1.parity_under-u.result p2.parity_under-v.result p1.parity_under-u.ensures.0 p2.parity_under-v.ensures.0 p1.parity_under-u.ensures.1 p2.parity_under-v.ensures.1
-          _ _ (sym cf.conflicting.ensures ∙ i.if-conflicting.true) c.take_next-then-conflicting.ensures.next;
-    }
+    let t = c.args.trellis.now in
+    let less = less_than (goal.at.returns-then-conflicting c).Else-path-trellis in
+    advanced_dead t.n t.col.now t.left.now t.right.now t.values.now c.requires.given (path_key c.args.path) less c.requires.good _ _ c.args.stack.now.paths c.requires.every
+    c.parity_under-u.result c.parity_under-v.result c.parity_under-u.ensures.0 c.parity_under-v.ensures.0 c.parity_under-u.ensures.1 c.parity_under-v.ensures.1
+    _ _ (sym c.conflicting.ensures ∙ c.if-conflicting.true) c.pop-then-conflicting.ensures
 
-pub value_of-requires-2 : goal.value_of-requires-2
-value_of-requires-2 c =
-    let e = (goal.at.value_of-requires-2 c).Else-l-n in
-    let a = e in
-    (a.requires.given.soft a.args.l (less e), asked_below (goal.at.value_of-requires-2 c).After-asked_bit-bit, a.requires.given.entries)
-
-pub overflow_add-sb-2 : goal.overflow_add-sb-2
-overflow_add-sb-2 c = let e = (goal.at.overflow_add-sb-2 c).Else-l-n in sum_fits _ _ e.ranges.s (record { sfits = c.value_of-2.type_inv }) (added e _ _ (asked_below (goal.at.overflow_add-sb-2 c).After-asked_bit-bit) c.value_of-2.ensures)
-
-pub overflow_add-cb-2 : goal.overflow_add-cb-2
-overflow_add-cb-2 c = omega (arith, double ((goal.at.overflow_add-cb-2 c).Else-l-n), asked_below (goal.at.overflow_add-cb-2 c).After-asked_bit-bit)
-
-pub exchange-p-requires-2 : goal.exchange-p-requires-2
-exchange-p-requires-2 c =
-    let v3 = c in
-    let ab = (goal.at.exchange-p-requires-2 c).After-asked_bit-bit in
-    let e = (goal.at.exchange-p-requires-2 c).Else-l-n in
-    let a = e in
-    let t = ab.asked_bit-bit.result in
-    let kt = extended e v3.value_of-2.result t (asked_below ab) v3.value_of-2.ensures (record { sfits = v3.value_of-2.type_inv }) in
-    let n = a.args.n in
-    let most = a.requires.given.most in record {
-      paths_bound = omega (arith, a.requires.paths_bound);
-      room = a.requires.room;
-      heap = a.requires.heap;
-      every = held_small n most _ a.args.paths a.requires.every;
-      small = good_small n _ most (subst⁻¹ (Good n) kt (held_extended e t).good);
+pub exchange-requires-2 : goal.exchange-requires-2
+exchange-requires-2 c =
+    let less = less_than (goal.at.exchange-requires-2 c).Else-path-trellis in
+    let below = asked_below (goal.at.exchange-requires-2 c).After-asked_bit-bit in record {
+      small = small c.args.trellis.now c.requires.given c.args.path c.requires.good less c.asked_bit-bit.result _
+          (extended c.args.trellis.now c.requires.given c.args.path c.requires.good less _ _ _ (record { sfits = c.value_of-2.type_inv }) below c.value_of-2.ensures c.extended-2.ensures);
     }
 
 pub returns : goal.returns
 returns c =
-    let v3 = c in
-    let ab = (goal.at.returns c).After-asked_bit-bit in
-    let cf = ab in
-    let p2 = cf in
-    let p1 = p2 in
-    let e = (goal.at.returns c).Else-l-n in
-    let a = e in
-    let t = ab.asked_bit-bit.result in
-    let kt = extended e v3.value_of-2.result t (asked_below ab) v3.value_of-2.ensures (record { sfits = v3.value_of-2.type_inv }) in record {
-      room_2 = c.exchange-p-2.ensures.room_2;
-      advanced = advanced_at _ _ _ _ _ _ _ _ _ _ (record { sfits = search rules })
-          (advanced_one a.args.n a.args.col.now a.args.left.now a.args.right.now a.args.values.now a.requires.given a.args.s a.args.l a.args.b (less e) a.requires.good _ _ a.args.paths a.requires.every
-          p1.parity_under-u.result p2.parity_under-v.result p1.parity_under-u.ensures.0 p2.parity_under-v.ensures.0 p1.parity_under-u.ensures.1 p2.parity_under-v.ensures.1
-          t _ _ (sym p1.unchecked.ensures ∙ p1.if-unchecked.false) (sym cf.conflicting.ensures ∙ ab.if-conflicting.false) ab.asked_bit-bit.ensures kt c.exchange-p-2.ensures.out);
-    }
+    let t = c.args.trellis.now in
+    let less = less_than (goal.at.returns c).Else-path-trellis in
+    let below = asked_below (goal.at.returns c).After-asked_bit-bit in
+    let asked = extended t c.requires.given c.args.path c.requires.good less _ c.asked_bit-bit.result _ (record { sfits = c.value_of-2.type_inv }) below c.value_of-2.ensures c.extended-2.ensures in
+    rw c.exchange-2.ensures.paths
+    (advanced_one t.n t.col.now t.left.now t.right.now t.values.now c.requires.given (path_key c.args.path) less c.requires.good _ _ c.args.stack.now.paths c.requires.every
+    c.parity_under-u.result c.parity_under-v.result c.parity_under-u.ensures.0 c.parity_under-v.ensures.0 c.parity_under-u.ensures.1 c.parity_under-v.ensures.1
+    c.asked_bit-bit.result _ _ (sym c.unchecked.ensures ∙ c.if-unchecked.false) (sym c.conflicting.ensures ∙ c.if-conflicting.false) c.asked_bit-bit.ensures asked (rw c.exchange-2.ensures.paths at c.exchange-2.ensures.out))

@@ -1,12 +1,7 @@
--- `flipcensus::census_text` meets its contract: the lines of the levels passed stand one behind the other. Assumes nothing.
-use Prim.Native.Nat.{◌-◌, ◌*◌, ◌≤◌}
-use Rattle.stack.specs.Places.{Room}
-use Rattle.listing.specs.Text.{Appended}
+-- `flipcensus::census_text` meets its contract. The loop's invariant: the lines of the levels passed stand one behind the other. Assumes nothing.
+use Rattle.std.proofs.Common.{◌≡◌}
 use Rattle.flipcensus.specs.Text.{text_below}
 use Rattle.flipcensus.proofs.census_text.Given as goal
 
 abbrev pub invariant-loop-level : goal.invariant-loop-level
-invariant-loop-level l = (l.level ≤ 4) × Room l.sums l.lens l.bits × Appended 0 (text_below l.level) (532 * l.level) l.initial.out l.end l.out
-
-abbrev pub decreases-loop-level : goal.decreases-loop-level
-decreases-loop-level l = 4 - l.level
+invariant-loop-level l = l.text ≡ text_below l.level

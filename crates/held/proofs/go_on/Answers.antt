@@ -1,65 +1,51 @@
 -- `held::go_on` meets its contract. Assumes nothing.
-use Prim.Native.Nat.{ℕ}
-use mathlib.Core.List.{List}
 use mathlib.Core.Path.{refl, sym, ◌∙◌, subst⁻¹}
 use mir.Syntax.{w16}
-use mir.Val.{SFits, to_z, of_z}
+use mir.Val.{SFits}
+use Rattle.trellis.specs.Keys.{key_nodes}
+use Rattle.stack.specs.Places.{Stacked, path_key, places, row_keys}
+use Rattle.search.specs.Progress.{Standing, Reached}
+use Rattle.held.specs.Entry.{last_of}
+use mir.Facts.{to_z-of_z}
 use Rattle.trellis.specs.Values.{level_values}
-use Rattle.trellis.specs.Keys.{key}
 use Rattle.trellis.specs.Demand.{supercode}
-use Rattle.heap.specs.Holds.{Holds}
-use Rattle.stack.specs.Places.{at, Room, Upto}
-use Rattle.search.specs.Progress.{Standing}
-use Rattle.search.proofs.Continues.{standing_at}
 use Rattle.search.proofs.ShortSearch.{given_short, level_table, column_searchable}
 use Rattle.held.specs.State.{Stopped}
 use Rattle.held.proofs.Widths.{standing_same, reached_same, narrowed_same}
-use Rattle.held.proofs.GoesOn.{found_by_going_on, stops_again, reached_handed, outcome_handed, spent_has_no_word}
+use Rattle.held.proofs.GoesOn.{found_by_going_on, stops_again, spent_has_no_word}
 use borrow.Author.Rules.{rules}
 use Rattle.held.proofs.go_on.Goals.{Start}
 use Rattle.held.proofs.go_on.Goals as goal
 
--- what the types of an entry say
-room_of : (a : goal.Start) → Room a.args.held.sums a.args.held.lens a.args.held.bits
-room_of a = record { sums = search rules; lens = search rules; bits = search rules }
+pub run-end-requires-clause-given : goal.run-end-requires-clause-given
+run-end-requires-clause-given c =
+    let t = c.trellis.ensures in
+    let ready = c.requires.ready in
+    rw (t.0, t.1, t.2, t.3, t.4) (given_short _ _ _ _ (column_searchable supercode c.args.held.level ready.level _ _ _ _ ready.full ready.range c.tables_of-tables.ensures))
 
-sum_fits : (a : goal.Start) → SFits w16 a.args.held.sum
-sum_fits a = search rules
-
+-- what the type of the lowest sum says
 low_fits : (a : goal.Start) → SFits w16 a.args.held.low
 low_fits a = search rules
-
-pub run-end-requires : goal.run-end-requires
-run-end-requires c =
-    let tables = c in
-    let wide = c.widened-bits in
-    let a = (goal.at.run-end-requires c).Start in
-    let ready = a.requires.ready in record {
-      limit_bound = a.requires.limit_lt_limit.1;
-      given = given_short _ _ _ _ (column_searchable supercode a.args.held.level ready.level _ _ _ _ ready.full ready.range tables.tables_of-tables.ensures);
-      room = subst⁻¹ (Room a.args.held.sums a.args.held.lens) wide.ensures (room_of a);
-      standing = subst⁻¹ (λ (bits : List ℕ). Standing 30 (at a.args.held.sums a.args.held.lens bits) a.args.held.paths a.args.held.limit (key (to_z w16 (of_z w16 a.args.held.sum)) a.args.held.len a.args.held.last)) wide.ensures (standing_at _ _ _ _ _ _ _ (sum_fits a) ready.standing);
-    }
 
 pub returns : goal.returns
 returns c =
     let run = c.run-end in
-    let wide = c.widened-bits in
-    let tables = c in
-    let a = (goal.at.returns c).Start in
-    let h = a.args.held in
-    let of = tables.tables_of-tables.ensures in
-    let table = level_table supercode h.level _ _ _ of in
-    let sum_after : SFits w16 run.result.sum = record { sfits = search rules } in
+    let h = c.args.held in
+    let t = c.trellis.ensures in
+    let of = c.tables_of-tables.ensures in
+    let sum_after : SFits w16 run.result.last.sum = record { sfits = search rules } in
     let low_after : SFits w16 run.result.low = record { sfits = search rules } in
-    let stands = run.ensures.standing_2 in
-    let same = narrowed_same run.new.sums run.new.lens run.new.bits c.narrowed-kept_bits.result _ _ _ stands c.narrowed-kept_bits.ensures in
-    let standing = standing_same _ _ _ same _ _ (standing_at _ _ _ _ _ _ _ sum_after stands) in
-    let reached : (s : Stopped h) → _ = λ s. reached_same _ _ _ same _ _ _ _ _ s.rest _ _ _ (reached_handed _ _ _ _ _ _ _ _ s.rest _ _ _ _ _ _ (sum_fits a) (low_fits a) sum_after low_after (run.ensures.reached (level_values h.level) table s.rest (subst⁻¹ (λ (bits : List ℕ). Holds Upto (at h.sums h.lens bits) h.paths s.rest) wide.ensures s.holds))) in
-    record {
+    let stands = subst⁻¹ (λ (s : Stacked). Standing 30 (places s) s.paths run.result.count (path_key run.result.last)) c.stack.view_is (rw t.0 at run.ensures.standing_2) in
+    let same = narrowed_same _ _ _ c.narrowed.result _ _ _ stands c.narrowed.ensures in
+    let standing = standing_same _ _ _ same _ _ stands in
+    let reached : (s : Stopped h) → Reached (key_nodes 30 (level_values h.level) h.column c.tables_of-tables.result.left c.tables_of-tables.result.right) 30 c.args.limit (row_keys c.stack.inside.row) h.limit (last_of h) h.low s.rest c.stack.inside.paths run.result.count (path_key run.result.last) run.result.low = λ s.
+    subst⁻¹ (λ (x : Stacked). Reached (key_nodes 30 (level_values h.level) h.column c.tables_of-tables.result.left c.tables_of-tables.result.right) 30 c.args.limit (places x) h.limit (last_of h) h.low s.rest x.paths run.result.count (path_key run.result.last) run.result.low) c.stack.view_is
+    (rw (t.0, t.1, t.2, t.3, c.last_taken.ensures, to_z-of_z {w = w16} {z = h.low} (low_fits (goal.at.returns c).Start)) at (run.ensures.reached (level_values h.level) (rw t.4 (level_table supercode h.level _ _ _ of)) s.rest (rw c.widened.ensures s.holds))) in
+    rw (to_z-of_z {w = w16} sum_after, to_z-of_z {w = w16} low_after)
+    (record {
       column = refl;
       level = refl;
       summed = refl;
-      found = λ s. c.outcome_at.ensures ∙ outcome_handed run.result low_after ∙ found_by_going_on h s a.args.limit a.requires.limit_lt_limit.0 _ _ _ of _ _ _ _ run.new.sums run.new.lens c.narrowed-kept_bits.result standing (reached s);
-      stopped = λ s spent. stops_again h s a.args.limit a.requires.limit_lt_limit.0 _ _ _ of _ _ _ _ run.new.sums run.new.lens c.narrowed-kept_bits.result standing (reached s) (spent_has_no_word run.result (sym c.outcome_at.ensures ∙ spent));
-    }
+      found = λ s. c.outcome_at.ensures ∙ found_by_going_on h s c.args.limit c.requires.limit_lt_limit.0 _ _ _ of _ _ _ _ c.stack.inside.row.sums c.stack.inside.row.lens c.narrowed.result standing (reached_same _ _ _ same _ _ _ _ _ s.rest _ _ _ (reached s));
+      stopped = λ s spent. stops_again h s c.args.limit c.requires.limit_lt_limit.0 _ _ _ of _ _ _ _ c.stack.inside.row.sums c.stack.inside.row.lens c.narrowed.result standing (reached_same _ _ _ same _ _ _ _ _ s.rest _ _ _ (reached s)) (spent_has_no_word run.result (sym c.outcome_at.ensures ∙ spent));
+    })

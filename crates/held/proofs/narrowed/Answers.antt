@@ -10,23 +10,22 @@ use borrow.Author.Rules.{rules}
 use Rattle.held.proofs.narrowed.Goals as goal
 
 pub loop-k-init : goal.loop-k-init
-loop-k-init c = (omega arith, refl, λ j h. absurd (omega arith))
+loop-k-init c = (refl, λ j h. absurd (omega arith))
 
 pub loop-k-preserved : goal.loop-k-preserved
 loop-k-preserved c =
     let i = c.loop-k in
-    let bits = c.args.bits in
-    let full : length i.narrow ≡ 2002 = i.invariant.1 in (
-      omega (arith, c.loop-k-test.true),
+    let bits = c.args.bits.now in
+    let full : length i.narrow ≡ 2002 = i.invariant.0 in (
       length-set i.narrow _ _ ∙ full,
-      one_more_filled (λ j v. get_or bits j 0 < 4294967296 → v ≡ get_or bits j 0) i.narrow i.k _ (omega (arith, full, c.loop-k-test.true)) i.invariant.2 mod-eq_of_lt,
+      one_more_filled (λ j v. get_or bits j 0 < 4294967296 → v ≡ get_or bits j 0) i.narrow i.k _ (omega (arith, full, c.loop-k-test.true)) i.invariant.1 mod-eq_of_lt,
     )
 
 pub returns : goal.returns
 returns c = record { same = λ j. go j (dec_le 2002 j) }
   where
     bits : List ℕ
-    bits = c.args.bits
+    bits = c.args.bits.now
 
     narrow : List ℕ
     narrow = c.loop-k.narrow
@@ -35,5 +34,5 @@ returns c = record { same = λ j. go j (dec_le 2002 j) }
     from = search rules
 
     go : (j : ℕ) → Dec (2002 ≤ j) → get_or bits j 0 < 4294967296 → get_or narrow j 0 ≡ get_or bits j 0
-    go j (yes l) h = get_or-eq_default narrow 0 {n = j} (omega (arith, c.loop-k.invariant.1)) ∙ sym (get_or-eq_default bits 0 {n = j} (omega (arith, from)))
-    go j (no l) h = c.loop-k.invariant.2 j (omega (arith, c.loop-k-test.false)) h
+    go j (yes l) h = get_or-eq_default narrow 0 {n = j} (omega (arith, c.loop-k.invariant.0)) ∙ sym (get_or-eq_default bits 0 {n = j} (omega (arith, from)))
+    go j (no l) h = c.loop-k.invariant.1 j (omega (arith, c.loop-k-test.false)) h

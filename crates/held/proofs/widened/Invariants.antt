@@ -1,11 +1,8 @@
 -- `held::widened` meets its contract: the first k are filled. Assumes nothing.
 use mathlib.Core.Path.{◌≡◌}
-use Prim.Native.Nat.{ℕ, ◌-◌, ◌≤◌, ◌<◌}
+use Prim.Native.Nat.{ℕ, ◌<◌}
 use lib.ListN.{length, get_or}
 use Rattle.held.proofs.widened.Given as goal
 
 abbrev pub invariant-loop-k : goal.invariant-loop-k
-invariant-loop-k l = (l.k ≤ 2002) × (length l.wide ≡ 2002) × ((j : ℕ) → j < l.k → get_or l.wide j 0 ≡ get_or l.bits j 0)
-
-abbrev pub decreases-loop-k : goal.decreases-loop-k
-decreases-loop-k l = 2002 - l.k
+invariant-loop-k l = (length l.wide ≡ 2002) × ((j : ℕ) → j < l.k → get_or l.wide j 0 ≡ get_or l.bits j 0)

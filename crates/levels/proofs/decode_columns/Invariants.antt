@@ -1,12 +1,14 @@
--- `levels::decode_columns` meets its contract: the arrays hold what the run has given below the level. Assumes nothing.
-use Prim.Native.Nat.{◌-◌}
-use Rattle.stack.specs.Places.{Room}
-use Rattle.readings.specs.Steps.{way_reader}
+-- `levels::decode_columns` meets its contract: the arrays hold what the run has given below the level, and it is noted of its searches. Assumes nothing.
+use mathlib.Core.Bool.{◌||◌}
+use mathlib.Core.Path.{◌≡◌}
+use Rattle.column.specs.Shape.{short}
+use Rattle.concatenated.specs.Chip.{some_below}
+use Rattle.concatenated.specs.OuterCode.{short_outer}
 use Rattle.levels.proofs.LevelRuns.{Decoding}
 use Rattle.levels.proofs.decode_columns.Given as goal
 
 abbrev pub invariant-loop-level : goal.invariant-loop-level
-invariant-loop-level l = Decoding (way_reader l.way) l.initial.work l.work l.held l.changed l.erased l.sum l.low l.level × Room l.sums l.lens l.bits
-
-abbrev pub decreases-loop-level : goal.decreases-loop-level
-decreases-loop-level l = 4 - l.level
+invariant-loop-level g l =
+    let r = g.R.ColumnReader in
+    Decoding (r.reader l.reader) l.initial.work l.work l.held l.steps l.low l.level
+    × (r.noted l.scratch ≡ (r.noted l.initial.scratch || some_below short short_outer (r.reader l.reader) l.initial.work (r.test l.reader) l.level))

@@ -1,11 +1,10 @@
--- `listing::write_lines` ends: each line is longer than nothing, and the measure is what is left of the text. Assumes nothing.
--- What was written is the text before the line that begins.
-use Rattle.std.proofs.Common.{◌-◌, ◌≤◌, length, take}
+-- `listing::write_lines` meets its contract. The loop's invariant: what was written is the text before the lines that are left. Each line is longer than nothing, and the measure is what is left of the text. Assumes nothing.
+use Rattle.std.proofs.Common.{◌≡◌, ◌++◌, ℕ, List, length}
 use Rattle.std.specs.Io.KnownBytes.{Appends}
 use Rattle.listing.proofs.write_lines.Given as goal
 
-abbrev pub invariant-loop-start : goal.invariant-loop-start
-invariant-loop-start g l = (l.start ≤ length l.text) × Appends (g.W.Write.contents l.initial.out) (g.W.Write.contents l.out) (take l.start l.text)
+abbrev pub invariant-loop-rest : goal.invariant-loop-rest
+invariant-loop-rest g l = (done : List ℕ) × (l.text ≡ done ++ l.rest) × Appends (g.W.Write.contents l.initial.out) (g.W.Write.contents l.out) done
 
-abbrev pub decreases-loop-start : goal.decreases-loop-start
-decreases-loop-start g l = length l.text - l.start
+abbrev pub decreases-loop-rest : goal.decreases-loop-rest
+decreases-loop-rest g l = length l.rest

@@ -14,7 +14,6 @@ loop-j-init c =
       search rules,
       search rules,
       search rules,
-      search rules,
       values_begin 6 67 field64 16 (from x.g.now x.k) x.xs,
       denominators_begin 6 67 field64 16 (from x.g.now x.k) x.xs,
       numerators_begin 6 67 field64 16 x.k (symbol x.s.now) (from x.g.now x.k) x.xs,
@@ -28,15 +27,14 @@ loop-j-preserved c =
     let f = c.fold in
     let t = c.gather in
     let p = from x.g.now x.k in
-    let q = values_go_on 6 67 field64 p x.xs l.q r.new.v l.j _ refl l.invariant.4 r.ensures in
+    let q = values_go_on 6 67 field64 p x.xs l.q r.new.v l.j _ refl l.invariant.3 r.ensures in
     let e : x.k - (l.j + 1) ≡ x.k - suc l.j = omega arith in (
-      omega arith,
-      r.auto.v ∙ l.invariant.1,
-      f.auto.d ∙ l.invariant.2,
-      t.auto.a ∙ l.invariant.3,
+      r.auto.v ∙ l.invariant.0,
+      f.auto.d ∙ l.invariant.1,
+      t.auto.a ∙ l.invariant.2,
       q,
-      denominators_go_on 6 67 field64 p x.xs r.new.v l.d f.new.d l.j q l.invariant.5 f.ensures,
-      numerators_go_on 6 67 field64 x.k (symbol x.s.now) p x.xs r.new.v l.a t.new.a l.j _ (ap (symbol x.s.now) e) q l.invariant.6 t.ensures,
+      denominators_go_on 6 67 field64 p x.xs r.new.v l.d f.new.d l.j q l.invariant.4 f.ensures,
+      numerators_go_on 6 67 field64 x.k (symbol x.s.now) p x.xs r.new.v l.a t.new.a l.j _ (ap (symbol x.s.now) e) q l.invariant.5 t.ensures,
     )
 
 pub returns : goal.returns
@@ -45,4 +43,4 @@ returns c =
     let l = c.loop-j in
     let e : l.j ≡ x.k = omega arith in
     magnitudes_end 6 67 field64 x.k (symbol x.s.now) (from x.g.now x.k) x.xs l.a l.d c.products-e.result c.inverses-f.result c.products.result
-    (rw e at l.invariant.6) (rw e at l.invariant.5) c.products-e.ensures c.inverses-f.ensures c.products.ensures
+    (rw e at l.invariant.5) (rw e at l.invariant.4) c.products-e.ensures c.inverses-f.ensures c.products.ensures

@@ -1,47 +1,26 @@
-use mathlib.Core.Path.{◌≡◌, ap, ◌∙◌}
-use Prim.Native.Nat.{◌+◌, ◌-◌, ◌%◌, ◌≤◌, ◌<◌}
-use lib.ListN.{length, take, drop}
-use Rattle.list_of_two.specs.Ways.{choice_of}
+use Rattle.std.proofs.Common.{◌+◌, ◌-◌, ◌*◌, ◌≤◌, length, take, drop, ap, arith}
+use mathlib.Core.Path.{◌∙◌}
 use Rattle.search.proofs.ShortSearch.{column_searchable}
+use Rattle.list_of_two.specs.Ways.{choice_of}
 use Rattle.measured.specs.Folds.{folded, searched_number}
-use Rattle.measured.proofs.Parts.{part_long, part_range, none_folded, one_more_folded, all_folded}
-use native.Mathlib.Omega.{arith}
-use borrow.Author.Rules.{rules}
+use Rattle.measured.proofs.Parts.{part_long, part_range, none_folded, one_more_folded}
 use Rattle.measured.proofs.search_all.Goals as goal
 
-pub loop-a-init : goal.loop-a-init
-loop-a-init c = (search rules, search rules, search rules, λ s i h tables hard. none_folded _ _)
+pub loop-j-init : goal.loop-j-init
+loop-j-init c s i h tables hard = none_folded _ _
 
-pub search_by-found-requires : goal.search_by-found-requires
-search_by-found-requires c =
+pub search_by-found-requires-clause-searchable30 : goal.search_by-found-requires-clause-searchable30
+search_by-found-requires-clause-searchable30 c =
     let soft = c.args.soft.now in
-    let a = c.loop-a.a in
-    let fits : a + 30 ≤ length soft = omega (arith, c.loop-a.invariant.0) in
-    let some = c.requires.by_index_2 in record {
-      limit_bound = c.requires.limit_bound;
-      searchable30 = column_searchable some.0 some.1 some.2 (take (a + 30 - a) (drop a soft)) _ _ _ (part_long soft a fits) (part_range soft a fits c.requires.by_index) some.3;
-      by_index = (some.1, some.2, some.4);
-      room = c.loop-a.invariant.2;
-    }
+    let a = c.loop-j.j * 30 in
+    let fits : a + 30 ≤ length soft = omega (arith, c.loop-j-test.true) in
+    let some = c.requires.by_index_2 in
+    let t = c.trellis.ensures in
+    rw (t.1, t.2, t.3, t.4) (column_searchable some.0 some.1 some.2 (take (a + 30 - a) (drop a soft)) _ _ _ (part_long soft a fits) (part_range soft a fits c.requires.by_index) some.3)
 
-pub loop-a-preserved : goal.loop-a-preserved
-loop-a-preserved c =
-    let soft = c.args.soft.now in
-    let a = c.loop-a.a in
-    let inv = c.loop-a.invariant in
-    let fits : a + 30 ≤ length soft = omega (arith, inv.0, c.loop-a-test.true) in
-    let whole : (a + 30) % 30 ≡ 0 = omega (arith, inv.1) in (
-      fits,
-      whole,
-      c.search_by-found.ensures.room_2,
-      λ s i h tables hard.
-          let way = c.args.way in
-          one_more_folded (searched_number (choice_of way) s i way.limit) soft a _ _ inv.1 (inv.3 s i h tables hard) (c.folded-fold.ensures ∙ ap folded (c.search_by-found.ensures.value s i h tables hard)),
-    )
-
-pub returns : goal.returns
-returns c =
-    let inv = c.loop-a.invariant in
-    let soft = c.args.soft.now in
-    let last : length soft - c.loop-a.a < 30 = omega (arith, c.loop-a-test.false) in
-    λ s i h tables hard. all_folded _ soft _ _ inv.1 inv.0 last (inv.3 s i h tables hard)
+pub loop-j-preserved : goal.loop-j-preserved
+loop-j-preserved c s i h tables hard =
+    let way = c.args.way in
+    let t = c.trellis.ensures in
+    let found = c.search_by-found.ensures s i h (rw (t.2, t.3, t.4) tables) (rw t.4 hard) in
+    one_more_folded (searched_number (choice_of way) s i way.limit) c.args.soft.now c.loop-j.j _ _ (c.loop-j.invariant s i h tables hard) (c.folded-fold.ensures ∙ ap folded (rw t.1 at found))

@@ -1,19 +1,11 @@
--- `measured::search_all` meets its contract. The loop's invariant: the columns before a are searched, and the arrays keep their places. Assumes nothing.
-use mathlib.Core.Path.{◌≡◌}
-use Prim.Native.Nat.{ℕ, ◌-◌, ◌%◌, ◌≤◌, ◌<◌}
-use lib.ListN.{length}
+-- `measured::search_all` meets its contract. The loop's invariant: the first j columns are searched. Assumes nothing.
+use Rattle.std.proofs.Common.{◌≡◌, ℕ, ◌<◌, is_some}
 use Rattle.trellis.specs.Demand.{Search}
 use Rattle.search.specs.Outcomes.{TablesFor}
 use Rattle.list_of_two.specs.Hard.{HardFor}
 use Rattle.list_of_two.specs.Ways.{choice_of}
-use Rattle.stack.specs.Places.{Room}
-use Rattle.measured.specs.Folds.{searched_number}
-use Rattle.measured.proofs.Parts.{Folded}
+use Rattle.measured.specs.Folds.{folded_columns, searched_number}
 use Rattle.measured.proofs.search_all.Given as goal
 
-abbrev pub invariant-loop-a : goal.invariant-loop-a
-invariant-loop-a l = (l.a ≤ length l.soft) × (l.a % 30 ≡ 0) × Room l.sums l.lens l.bits
-    × ((s : Search) (i : ℕ) → i < 4 → TablesFor s i l.left l.right l.values → HardFor l.way.second i l.values l.checks l.agreeing → Folded (searched_number (choice_of l.way) s i l.way.limit) l.soft l.a l.fold)
-
-abbrev pub decreases-loop-a : goal.decreases-loop-a
-decreases-loop-a l = length l.soft - l.a
+abbrev pub invariant-loop-j : goal.invariant-loop-j
+invariant-loop-j l = (s : Search) (i : ℕ) → i < 4 → TablesFor s i l.tables.left l.tables.right l.tables.values → HardFor (is_some l.way.threshold) i l.tables.values l.hard.checks l.hard.agreeing → l.fold ≡ folded_columns (searched_number (choice_of l.way) s i l.way.limit) l.soft l.j

@@ -28,12 +28,6 @@ returns-then-t-n c =
 pub syndromes-s-requires : goal.syndromes-s-requires
 syndromes-s-requires c = (omega arith, omega (arith, c.requires.4), row_padded _ _ c.requires.0 c.requires.3 c.put.ensures)
 
-pub put-requires-then-all_zero : goal.put-requires-then-all_zero
-put-requires-then-all_zero c =
-    let e = c in
-    let s = e in
-    (omega arith, omega (arith, s.requires.2))
-
 pub returns-then-all_zero : goal.returns-then-all_zero
 returns-then-all_zero c =
     let e = c in
@@ -48,43 +42,25 @@ returns-then-all_zero c =
     (c.all_zero.ensures.yes c.if-all_zero.true))
     (omega (arith, e.number-n.ensures, e.if-t-n.false)) (out.auto.b ∙ s.requires.2) out.ensures)
 
-pub corrected-f-requires : goal.corrected-f-requires
-corrected-f-requires c =
+pub corrected-requires : goal.corrected-requires
+corrected-requires c =
     let e = c in
     let s = e in
     (omega (arith, s.requires.1), s.requires.4, e.if-t-n.false, e.number-n.ensures, row_padded _ _ e.requires.0 e.requires.3 e.put.ensures, c.syndromes-s.ensures)
-
-pub all_zero-requires-2 : goal.all_zero-requires-2
-all_zero-requires-2 c =
-    let e = c in
-    let s = e in
-    omega (arith, s.requires.4)
-
-pub wrong-e-requires : goal.wrong-e-requires
-wrong-e-requires c =
-    let e = c in
-    let s = e in
-    (omega arith, omega arith, omega (arith, s.requires.1))
 
 pub overflow_mul-e : goal.overflow_mul-e
 overflow_mul-e c =
     let f = c in
     let e = f in
     let s = e in
-    omega (arith, c.wrong-e.ensures, wrongs_at_most s.args.marks.now e.put.new.b f.corrected-f.result.symbols 63)
+    omega (arith, c.wrong-e.ensures, wrongs_at_most s.args.marks.now e.put.new.b f.corrected.result.symbols 63)
 
 pub overflow_add-e : goal.overflow_add-e
 overflow_add-e c =
     let f = c in
     let e = f in
     let s = e in
-    omega (arith, c.wrong-e.ensures, wrongs_at_most s.args.marks.now e.put.new.b f.corrected-f.result.symbols 63, e.if-t-n.false, s.requires.4)
-
-pub put-requires-then-e-n : goal.put-requires-then-e-n
-put-requires-then-e-n c =
-    let e = c in
-    let s = e in
-    (omega arith, omega (arith, s.requires.2))
+    omega (arith, c.wrong-e.ensures, wrongs_at_most s.args.marks.now e.put.new.b f.corrected.result.symbols 63, e.if-t-n.false, s.requires.4)
 
 pub returns-then-e-n : goal.returns-then-e-n
 returns-then-e-n c =
@@ -92,7 +68,7 @@ returns-then-e-n c =
     let e = f in
     let s = e in
     let a = s.args in
-    let v = f.corrected-f in
+    let v = f.corrected in
     let out = c.put-then-e-n in
     decoded_found _ _ _
     (answer_as _ _ _ a.marks.now e.put.ensures
@@ -107,7 +83,7 @@ returns-else-e-n c =
     let e = f in
     let s = e in
     let a = s.args in
-    let v = f.corrected-f in
+    let v = f.corrected in
     decoded_none _ _
     (answer_as _ _ _ a.marks.now e.put.ensures
     ∙ check_is_failed 6 67 63 a.t primitive64 (lit< tt) e.put.new.b a.marks.now v.result.symbols (row_padded _ _ e.requires.0 e.requires.3 e.put.ensures) v.ensures.0
@@ -119,7 +95,7 @@ returns-else-all_zero-2 c =
     let e = f in
     let s = e in
     let a = s.args in
-    let v = f.corrected-f in
+    let v = f.corrected in
     decoded_none _ _
     (answer_as _ _ _ a.marks.now e.put.ensures
     ∙ check_is_failed 6 67 63 a.t primitive64 (lit< tt) e.put.new.b a.marks.now v.result.symbols (row_padded _ _ e.requires.0 e.requires.3 e.put.ensures) v.ensures.0

@@ -11,7 +11,7 @@ use Rattle.page.proofs.encode_rows.Goals as goal
 
 pub loop-level-init : goal.loop-level-init
 unfolding data_before
-loop-level-init c = (front_none _ _ 4 (four_rows _) c.requires.1, refl)
+loop-level-init c = (front_none _ _ 4 (four_rows _) (omega arith), refl)
 
 pub overflow_add-end : goal.overflow_add-end
 overflow_add-end c = record { fits = omega (arith, row_data_within_200 c.loop-level.level c.loop-level-test.true, c.loop-level.invariant.1, c.roots-t.ensures.0) }

@@ -24,7 +24,7 @@ unfolding is_short_codeword
 tested symbols level t r h et e = e ∙ ap₂ (is_codeword 6 67 63) et (row_cut_out symbols level _ _ h refl refl)
 
 pub loop-level-init : goal.loop-level-init
-loop-level-init c = (omega arith, refl)
+loop-level-init c = refl
 
 pub is_codeword-requires : goal.is_codeword-requires
 is_codeword-requires c =
@@ -37,16 +37,17 @@ returns-then-not-is_codeword c =
     let h = c.loop-level-test.true in
     let symbols = c.args.symbols.now in
     let none = sym (tested symbols c.loop-level.level _ _ h c.roots.ensures.0 c.is_codeword.ensures) ∙ c.if-not-is_codeword.true in
-    sym (c.loop-level.invariant.1 ∙ lowest_is_here is_short_codeword (rows_in short_page symbols) c.loop-level.level (omega (arith, as_many_rows_in short_page symbols, h)) none)
+    sym (c.loop-level.invariant ∙ lowest_is_here is_short_codeword (rows_in short_page symbols) c.loop-level.level (omega (arith, as_many_rows_in short_page symbols, h)) none)
 
 pub loop-level-preserved : goal.loop-level-preserved
 loop-level-preserved c =
     let h = c.loop-level-test.true in
     let symbols = c.args.symbols.now in
     let word = sym (tested symbols c.loop-level.level _ _ h c.roots.ensures.0 c.is_codeword.ensures) ∙ c.if-not-is_codeword.false in
-    (omega arith, c.loop-level.invariant.1 ∙ lowest_lies_above is_short_codeword (rows_in short_page symbols) c.loop-level.level (omega (arith, as_many_rows_in short_page symbols, h)) word)
+    c.loop-level.invariant ∙ lowest_lies_above is_short_codeword (rows_in short_page symbols) c.loop-level.level (omega (arith, as_many_rows_in short_page symbols, h)) word
 
 pub returns : goal.returns
 returns c =
     let symbols = c.args.symbols.now in
-    sym (c.loop-level.invariant.1 ∙ lowest_is_none is_short_codeword (rows_in short_page symbols) c.loop-level.level (omega (arith, as_many_rows_in short_page symbols, c.loop-level.invariant.0, c.loop-level-test.false)))
+    let last : c.loop-level.level ≡ 4 = omega (arith, c.loop-level-test.false, c.loop-level.auto.level-end) in
+    sym (c.loop-level.invariant ∙ lowest_is_none is_short_codeword (rows_in short_page symbols) c.loop-level.level (omega (arith, as_many_rows_in short_page symbols, last)) ∙ last)

@@ -1,6 +1,5 @@
 -- `page::lowest_no_word` meets its contract: the rows below the level are words. Assumes nothing.
 use mathlib.Core.Path.{◌≡◌}
-use Prim.Native.Nat.{◌-◌, ◌≤◌}
 use lib.ListN.{drop}
 use Rattle.concatenated.specs.Format.{short_page}
 use Rattle.concatenated.specs.Symbols.{rows_in, lowest_no_word}
@@ -8,7 +7,4 @@ use Rattle.concatenated.specs.OuterCode.{is_short_codeword}
 use Rattle.page.proofs.lowest_no_word.Given as goal
 
 abbrev pub invariant-loop-level : goal.invariant-loop-level
-invariant-loop-level l = (l.level ≤ 4) × (lowest_no_word is_short_codeword 0 (rows_in short_page l.symbols) ≡ lowest_no_word is_short_codeword l.level (drop l.level (rows_in short_page l.symbols)))
-
-abbrev pub decreases-loop-level : goal.decreases-loop-level
-decreases-loop-level l = 4 - l.level
+invariant-loop-level l = lowest_no_word is_short_codeword 0 (rows_in short_page l.symbols) ≡ lowest_no_word is_short_codeword l.level (drop l.level (rows_in short_page l.symbols))

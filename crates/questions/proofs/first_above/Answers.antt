@@ -1,25 +1,13 @@
-use mathlib.Core.Path.{◌≡◌, ◌∙◌}
-use Prim.Native.Nat.{◌≤◌, ◌+◌, ◌-◌}
-use lib.ListN.{length, drop}
-use Rattle.questions.specs.Questions.{first_above}
+use Rattle.std.proofs.Common.{arith}
+use mathlib.Core.Path.{◌∙◌}
 use Rattle.questions.proofs.FirstAbove.{first_more, first_here, first_none}
-use native.Mathlib.Omega.{arith}
-use borrow.Author.Rules.{rules}
 use Rattle.questions.proofs.first_above.Goals as goal
 
-pub returns-then-s-i : goal.returns-then-s-i
-returns-then-s-i c =
-    let at_loop = c in
-    let args = at_loop.args in
-    omega (arith, first_here args.s.now args.top at_loop.loop-i.i (omega arith) c.if-s-i.true)
-
 pub loop-i-preserved : goal.loop-i-preserved
-loop-i-preserved c =
-    let at_loop = c in
-    let args = at_loop.args in
-    (search rules, at_loop.loop-i.invariant.1 ∙ first_more args.s.now args.top at_loop.loop-i.i (omega arith) c.if-s-i.false)
+loop-i-preserved c = c.loop-i.invariant ∙ first_more _ _ _ c.loop-i-test.true c.if-x-top.false
+
+pub returns-then-x-top : goal.returns-then-x-top
+returns-then-x-top c = omega (arith, c.loop-i.invariant, first_here c.args.s.now c.args.top c.loop-i.i c.loop-i-test.true c.if-x-top.true)
 
 pub returns : goal.returns
-returns c =
-    let args = c.args in
-    omega (arith, first_none args.s.now args.top c.loop-i.i (omega arith))
+returns c = omega (arith, c.loop-i.invariant, first_none c.args.s.now c.args.top c.loop-i.i (omega (arith, c.loop-i-test.false, c.loop-i.auto.i-end)))

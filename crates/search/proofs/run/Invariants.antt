@@ -1,17 +1,14 @@
 -- `search::run` meets its contract. The loop's invariant: the search stands, and every run goes on from there as it does from the start. Assumes nothing.
-use Prim.Native.Nat.{◌-◌}
 use mathlib.Core.List.{List}
+use mathlib.Core.Path.{◌≡◌}
 use Rattle.heap.specs.Holds.{Holds}
-use Rattle.trellis.specs.Keys.{Key, key}
-use Rattle.stack.specs.Places.{at, Room, Upto}
-use Rattle.extension.specs.Steps.{table_nodes}
+use Rattle.trellis.specs.Keys.{Key}
+use Rattle.stack.specs.Places.{path_key, places, Upto}
+use Rattle.extension.specs.Lent.{nodes_of}
 use Rattle.search.specs.Progress.{Standing, Going}
 use Rattle.search.proofs.run.Given as goal
 
-abbrev pub invariant-loop-count : goal.invariant-loop-count
-invariant-loop-count l =
-    Room l.sums l.lens l.bits × Standing l.n (at l.sums l.lens l.bits) l.paths l.count (key l.s l.l l.b)
-    × ((xs : List Key) → Holds Upto (at l.initial.sums l.initial.lens l.initial.bits) l.initial.paths xs → Going (table_nodes l.n l.values l.col l.left l.right) l.n l.limit (at l.sums l.lens l.bits) l.initial.count (key l.initial.s l.initial.l l.initial.b) l.initial.low xs l.paths l.count (key l.s l.l l.b) l.low)
-
-abbrev pub decreases-loop-count : goal.decreases-loop-count
-decreases-loop-count l = l.limit - l.count
+abbrev pub invariant-loop : goal.invariant-loop
+invariant-loop l =
+    (l.counter ≡ l.state.count) × Standing l.trellis.n (places l.stack) l.stack.paths l.state.count (path_key l.state.last)
+    × ((xs : List Key) → Holds Upto (places l.initial.stack) l.initial.stack.paths xs → Going (nodes_of l.trellis) l.trellis.n l.limit (places l.stack) l.initial.state.count (path_key l.initial.state.last) l.initial.state.low xs l.stack.paths l.state.count (path_key l.state.last) l.state.low)

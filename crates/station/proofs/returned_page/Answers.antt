@@ -1,9 +1,8 @@
 -- `station::returned_page` meets its contract: the report is written where the number is 0. Assumes nothing.
-use mathlib.Core.Path.{ap, ◌∙◌}
+use mathlib.Core.Path.{refl, ap, ◌∙◌}
 use mir.Syntax.{w16}
 use mir.Val.{SFits}
 use mir.Facts.{to_z-of_z}
-use borrow.Author.Tests.{eq-eqb, ne_eqb}
 use Rattle.station.specs.Report.{low_bytes}
 use Prim.Native.Nat.{ℕ}
 use mathlib.Core.List.{List, ◌++◌}
@@ -12,12 +11,9 @@ use Rattle.station.proofs.Marking.{front_length, front_copied, report_is}
 use borrow.Author.Rules.{rules}
 use Rattle.station.proofs.returned_page.Goals as goal
 
-pub returns-then-number-ne0 : goal.returns-then-number-ne0
-returns-then-number-ne0 c = (c.returned_number.ensures, simp (ne_eqb _ _ c.if-number-ne0.true))
-
-pub returns : goal.returns
-returns c =
-    let told = c.args.outcome.report in
+pub returns-in-Ok : goal.returns-in-Ok
+returns-in-Ok c =
+    let told = c.in-Ok.told in
     let fits : SFits w16 told.low = record { sfits = search rules } in
     let is = report_is told _ _ _ _ _ c.requires.2 c.steps_and_totals-front.ensures (ap (λ (s : List ℕ). s ++ drop 12 c.args.report.now) c.copy_from_slice.ensures.after ∙ front_copied _ c.args.report.now (ap length c.steps_and_totals-front.ensures ∙ front_length told)) c.write_marks.ensures (c.write_low.ensures ∙ ap low_bytes (to_z-of_z {w = w16} fits)) in
-    (c.returned_number-2.ensures, simp (eq-eqb _ _ c.if-number-ne0.false) is)
+    rw (c.in-Ok.is) (refl, is)

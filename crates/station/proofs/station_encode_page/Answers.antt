@@ -1,7 +1,6 @@
 -- `station::station_encode_page` meets its contract: the call's outcome as one number, and its bytes. Assumes nothing.
 use mathlib.Core.Path.{ap, ◌∙◌, subst⁻¹}
-use Rattle.questions.specs.declared.Outcome.{Outcome}
-use Rattle.questions.specs.Outcome.{number, place}
+use Rattle.questions.specs.Answer.{Outcome, number, place}
 use Rattle.station.specs.Returned.{returned}
 use Rattle.station.proofs.Places.{SmallOutcome, encode_small}
 use Rattle.station.proofs.station_encode_page.Goals as goal

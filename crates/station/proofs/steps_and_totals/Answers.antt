@@ -3,4 +3,4 @@ use Rattle.station.proofs.Bytes.{four_bytes}
 use Rattle.station.proofs.steps_and_totals.Goals as goal
 
 pub returns : goal.returns
-returns c = four_bytes _ _
+returns c = rw c.to_be_bytes.ensures (four_bytes _ _)

@@ -8,7 +8,7 @@ loop-level-init c = marking_none _ _ _ c.requires
 
 pub slice_bounds-write_mark-end-in-loop-level : goal.slice_bounds-write_mark-end-in-loop-level
 slice_bounds-write_mark-end-in-loop-level c =
-    omega (arith, c.out-1.given, c.loop-level.invariant.long, c.loop-level-test.true)
+    omega (arith, c.loop-level.invariant.long, c.loop-level-test.true)
 
 pub loop-level-preserved : goal.loop-level-preserved
 loop-level-preserved c =

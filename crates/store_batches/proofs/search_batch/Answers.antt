@@ -1,38 +1,16 @@
-use mathlib.Core.Path.{◌≡◌, refl, sym, ap, ◌∙◌}
-use Prim.Native.Nat.{ℕ, ◌<◌}
-use native.Mathlib.Numerals.{add-one}
+use mathlib.Core.Path.{ap, ◌∙◌}
+use Prim.Native.Nat.{◌<◌}
 use native.Mathlib.Omega.{arith}
-use mathlib.Core.List.{List}
-use borrow.Author.Rules.{rules}
 use lib.ListN.{length, get_or, set}
+use Rattle.std.proofs.lemmas.List.{get_or_default}
+use Rattle.std.proofs.lemmas.List.Edits.{map_over_more}
 use Rattle.store_batches.specs.Jobs.{done_job}
-use Rattle.store_batches.specs.declared.Job.{Job}
-use Rattle.store_batches.proofs.Upto.{upto, upto_set, upto_all, upto_length}
 use Rattle.store_batches.proofs.search_batch.Goals as goal
 
-pub loop-i-init : goal.loop-i-init
-loop-i-init c = (search rules, omega arith, refl)
-
-pub run_job-requires : goal.run_job-requires
-run_job-requires c = (c.loop-i.invariant.0, c.supercode_masks-masks.ensures)
-
-pub loop-i-preserved : goal.loop-i-preserved
-loop-i-preserved c =
-    let f : Job → Job = done_job c.args.soft.now c.args.limit in
-    let xs : List Job = c.args.jobs.now in
-    let i : ℕ = c.loop-i.i in
-    let here = c.loop-i.invariant.2 in
-    let inside : i < length xs = omega (arith, ap length here ∙ upto_length f i xs, c.loop-i-test.true) in (
-      search rules,
-      omega arith,
-      ap (set c.loop-i.jobs i) c.run_job.ensures
-          ∙ ap (λ (l : List Job). set l i (f (get_or l i _))) here ∙ upto_set f i xs _ inside ∙ ap (λ (k : ℕ). upto f k xs) (sym (add-one i)),
-    )
-
-pub returns : goal.returns
-returns c =
-    let f : Job → Job = done_job c.args.soft.now c.args.limit in
-    let xs : List Job = c.args.jobs.now in
-    let here = c.loop-i.invariant.2 in
-    let all : c.loop-i.i ≡ length xs = omega (arith, ap length here ∙ upto_length f c.loop-i.i xs, c.loop-i.invariant.1, c.loop-i-test.false) in
-    here ∙ ap (λ (k : ℕ). upto f k xs) all ∙ upto_all f xs
+pub loop-job-preserved : goal.loop-job-preserved
+loop-job-preserved c =
+    let jobs = c.loop-job.jobs in
+    let i = c.loop-job.job-index in
+    let inside : i < length jobs = omega (arith, c.loop-job-test.true, c.loop-job.auto.jobs) in
+    ap (set jobs i) c.run_job.ensures
+    ∙ map_over_more (done_job c.args.soft.now c.args.limit) c.args.jobs.now jobs i (get_or jobs i _) c.loop-job-test.true c.loop-job.invariant (get_or_default jobs i _ _ inside)

@@ -1,5 +1,5 @@
 -- `store_chip::decode_page_chip` meets its contract: by the answer of the questions. Assumes nothing.
-use mathlib.Core.Path.{sym, ◌∙◌}
+use mathlib.Core.Path.{refl, sym, ◌∙◌}
 use lib.Dec.{eqb}
 use lib.ListN.{length}
 use borrow.Author.Tests.{eqb-true}
@@ -11,15 +11,15 @@ use Rattle.store_chip.proofs.decode_page_chip.Goals as goal
 pub decode_page-requires : goal.decode_page-requires
 decode_page-requires c =
     let args = c.args in
-    let ok = ready off args.soft.now args.limit (eqb (length args.«data».now) 150) (sym c.page_questions.ensures ∙ c.in-Done.is) in
+    let ok = ready off args.soft.now args.limit (eqb (length args.«data».now) 150) (sym c.page_questions.ensures ∙ c.in-Ok.is) in
     (ok.long, ok.values, ok.most, eqb-true _ _ ok.has_room)
 
-pub returns-in-Done : goal.returns-in-Done
-returns-in-Done c =
+pub returns-in-Ok : goal.returns-in-Ok
+returns-in-Ok c =
     let args = c.args in
-    chip_filled args.soft.now args.limit args.«data».now (sym c.in-Done.is ∙ c.page_questions.ensures) _ _ c.decode_page.ensures.page_value c.decode_page.ensures.pushed_value c.decode_page.ensures.data_after
+    chip_filled args.soft.now args.limit args.«data».now (sym c.in-Ok.is ∙ c.page_questions.ensures) _ _ c.decode_page.ensures.page_value c.decode_page.ensures.pushed_value c.decode_page.ensures.data_after
 
-pub returns-in-Refused : goal.returns-in-Refused
-returns-in-Refused c =
+pub returns-in-Err : goal.returns-in-Err
+returns-in-Err c =
     let args = c.args in
-    chip_refused args.soft.now args.limit args.«data».now _ _ (sym c.in-Refused.is ∙ c.page_questions.ensures) _ c.refused.ensures
+    chip_refused args.soft.now args.limit args.«data».now _ (sym c.in-Err.is ∙ c.page_questions.ensures) _ refl

@@ -1,51 +1,38 @@
-use mathlib.Core.Path.{◌∙◌, sym}
+-- `store_dumps::read_dump` meets its contract. Assumes nothing.
+use mathlib.Core.Path.{◌≡◌, ap, sym, ◌∙◌}
+use mathlib.Core.Bool.{Bool, true, false}
 use native.Mathlib.Omega.{arith}
-use borrow.Author.Count.{below_more}
 use borrow.Author.Rules.{rules}
-use borrow.Author.Tests.{eq-eqb, ne_eqb}
-use Rattle.store_dumps.proofs.BlockFaults.{first_bad_block_is_named, value_refused, values_passed}
+use borrow.Author.Tests.{eqb-true}
+use Rattle.std.proofs.lemmas.Result.{err_from_is_err_and}
+use Rattle.std.specs.Prelude.{is_ok}
+use Rattle.questions.proofs.EitherWay.{asked_done}
 use Rattle.questions.proofs.Filled.{refused, done}
+use Rattle.store_dumps.proofs.BlockFaults.{first_bad_block_is_named, values_asked}
 use Rattle.store_dumps.proofs.read_dump.Goals as goal
 
-pub returns-then-dump-ne2048 : goal.returns-then-dump-ne2048
-returns-then-dump-ne2048 c = refused (simp (ne_eqb _ _ c.if-dump-ne2048.true))
+pub returns-in_err-ask_block : goal.returns-in_err-ask_block
+returns-in_err-ask_block c =
+    let size = eqb-true _ _ (asked_done _ _ _ _ (sym c.ask.ensures ∙ c.in_ok-ask.was)).0 in
+    let room = eqb-true _ _ (asked_done _ _ _ _ (sym c.ask-2.ensures ∙ c.in_ok-ask-2.was)).0 in
+    let is = sym c.ask_block.ensures ∙ c.in_err-ask_block.was in
+    let named = first_bad_block_is_named c.args.dump.now c.args.out.now c.loop-b.b size room (search rules) c.loop-b.invariant (λ e. let z : ◌≡◌ {A = Bool} false true = ap is_ok (sym is ∙ e) in absurd (search rules)) in
+    let p = err_from_is_err_and c.from_residual-in_err-ask_block.result c.from_residual-in_err-ask_block.ensures.1 in
+    rw (p.1, p.2) (refused (named.0 ∙ is))
 
-pub returns-then-out-ne1890 : goal.returns-then-out-ne1890
-returns-then-out-ne1890 c = refused (simp (eq-eqb _ _ c.if-dump-ne2048.false, ne_eqb _ _ c.if-out-ne1890.true))
-
-pub returns-then-number-ne0 : goal.returns-then-number-ne0
-returns-then-number-ne0 c =
-    let at_loop = c in
-    let asked = at_loop in
-    let start = asked in
-    refused
-    (first_bad_block_is_named start.args.dump.now start.args.out.now at_loop.loop-b.b _ asked.if-dump-ne2048.false asked.if-out-ne1890.false (omega arith) at_loop.loop-b.invariant.1
-    c.ask_block-number.ensures c.if-number-ne0.true)
-
-pub loop-b-preserved : goal.loop-b-preserved
-loop-b-preserved c =
-    let at_loop = c in
-    (search rules, below_more _ _ at_loop.loop-b.invariant.1 (sym c.ask_block-number.ensures ∙ c.if-number-ne0.false))
-
-pub returns-then-bad-lt1890 : goal.returns-then-bad-lt1890
-returns-then-bad-lt1890 c =
-    let told = c in
-    let copied = told in
-    let at_loop = copied in
-    let asked = at_loop in
-    let start = asked in
-    refused
-    (value_refused start.args.dump.now start.args.out.now asked.if-dump-ne2048.false asked.if-out-ne1890.false (λ b h. at_loop.loop-b.invariant.1 b (omega arith)) copied.read.ensures
-    told.first_above-bad.ensures c.if-bad-lt1890.true)
+pub returns-in_err-in_range : goal.returns-in_err-in_range
+returns-in_err-in_range c =
+    let size = eqb-true _ _ (asked_done _ _ _ _ (sym c.ask.ensures ∙ c.in_ok-ask.was)).0 in
+    let room = eqb-true _ _ (asked_done _ _ _ _ (sym c.ask-2.ensures ∙ c.in_ok-ask-2.was)).0 in
+    let asked = values_asked c.args.dump.now c.args.out.now size room (λ b h. c.loop-b.invariant b (omega arith)) c.read.ensures in
+    let is = sym c.in_range.ensures ∙ c.in_err-in_range.was in
+    let p = err_from_is_err_and c.from_residual-in_err-in_range.result c.from_residual-in_err-in_range.ensures.1 in
+    rw (p.1, p.2) (refused (asked ∙ is))
 
 pub returns : goal.returns
 returns c =
-    let passed = c in
-    let copied = passed in
-    let at_loop = copied in
-    let asked = at_loop in
-    let start = asked in
-    done
-    (values_passed start.args.dump.now start.args.out.now asked.if-dump-ne2048.false asked.if-out-ne1890.false (λ b h. at_loop.loop-b.invariant.1 b (omega arith)) copied.read.ensures
-    passed.first_above-bad.ensures passed.if-bad-lt1890.false)
-    c.read-2.ensures
+    let size = eqb-true _ _ (asked_done _ _ _ _ (sym c.ask.ensures ∙ c.in_ok-ask.was)).0 in
+    let room = eqb-true _ _ (asked_done _ _ _ _ (sym c.ask-2.ensures ∙ c.in_ok-ask-2.was)).0 in
+    let asked = values_asked c.args.dump.now c.args.out.now size room (λ b h. c.loop-b.invariant b (omega arith)) c.read.ensures in
+    let is = sym c.in_range.ensures ∙ c.in_ok-in_range.was in
+    done (asked ∙ is) c.read-2.ensures

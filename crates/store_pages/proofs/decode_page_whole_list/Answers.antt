@@ -1,8 +1,7 @@
 -- `store_pages::decode_page_whole_list` meets its contract: what page decoding by either search gives. Assumes nothing.
-use mathlib.Core.Bool.{true}
 use Rattle.trellis.specs.Demand.{whole}
 use Rattle.store_pages.proofs.Asked.{as_handed_on}
 use Rattle.store_pages.proofs.decode_page_whole_list.Goals as goal
 
 pub returns : goal.returns
-returns c = as_handed_on true c.args.threshold c.ranges.threshold whole c.decode_either.ensures
+returns c = as_handed_on c.args.threshold c.ranges.threshold whole c.decode_either.ensures

@@ -5,16 +5,7 @@ use Rattle.checker.proofs.Judged.{judged_short}
 use Rattle.checker.proofs.short_page.judge_column.Goals as goal
 
 pub judge-requires : goal.judge-requires
-judge-requires c =
-    let start = c in record {
-      lines = start.requires.lines;
-      given = given_short _ _ _ _ start.requires.searchable30;
-      room = start.requires.room;
-    }
+judge-requires c = record { lines = c.requires.lines; given = rw c.requires.length (given_short _ _ _ _ c.requires.searchable30) }
 
 pub returns : goal.returns
-returns c =
-    let start = c in record {
-      room_2 = c.judge.ensures.room_2;
-      value = λ s i h tables. judged_short s i h _ _ _ _ _ _ tables start.requires.lines.both _ (c.judge.ensures.value (level_values i) (level_table s i _ _ _ tables));
-    }
+returns c s i h tables = judged_short s i h _ _ _ _ _ _ tables c.requires.lines.both _ (rw c.requires.length at c.judge.ensures (level_values i) (level_table s i _ _ _ tables))

@@ -6,15 +6,7 @@ use Rattle.chip.proofs.ShortSearch.{search_short}
 use Rattle.chip.proofs.short_page.search_column.Goals as goal
 
 pub search-requires : goal.search-requires
-search-requires c =
-    record {
-      given = given_short _ _ _ _ c.requires.searchable30;
-      leading = c.requires.leading;
-      places = c.requires.places;
-    }
+search-requires c = record { given = rw c.requires.length (given_short _ _ _ _ c.requires.searchable30); leading = c.requires.leading }
 
 pub returns : goal.returns
-returns c = record {
-  places_2 = c.search.ensures.places_2;
-  by_index = λ i h tables. search_short i h _ _ _ _ tables _ _ (c.search.ensures.value (level_values i) (level_table supercode i _ _ _ tables));
-}
+returns c i h tables = search_short i h _ _ _ _ tables _ _ (rw c.requires.length at c.search.ensures (level_values i) (level_table supercode i _ _ _ tables))

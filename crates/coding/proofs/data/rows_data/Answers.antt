@@ -6,6 +6,7 @@ use Rattle.concatenated.specs.Written.{rows_data}
 use Rattle.concatenated.proofs.Short.{short_page_numbers}
 use Rattle.concatenated.proofs.DataGroups.{no_row_put, one_more_row_put, row_cut_out, cut_out_row_is_a_word, row_data_within_200}
 use native.Mathlib.Omega.{arith}
+use Rattle.coding.proofs.Put.{put_is_pasted}
 use Rattle.coding.proofs.data.rows_data.Goals as goal
 
 pub loop-level-init : goal.loop-level-init
@@ -34,10 +35,9 @@ loop-level-preserved c =
     let level = turn.loop-level.level in
     let h = c.loop-level-test.true in
     let t = c.roots-n.ensures.0 in
-    one_more_row_put _ _ _ _ _ level _ turn.loop-level.invariant h (row_cut_out symbols level _ _ h refl refl) (cut_out_row_is_a_word symbols start.requires.0 level _ _ h refl refl).0 (ap (λ (x : ℕ). 63 - x) t) c.put.ensures
-
-pub shape_of-out : goal.shape_of-out
-shape_of-out c = c.loop-level.invariant.long_out ∙ sym c.requires.1
+    let row = cut_out_row_is_a_word symbols start.requires.0 level _ _ h refl refl in
+    one_more_row_put _ _ _ _ _ level _ turn.loop-level.invariant h (row_cut_out symbols level _ _ h refl refl) (cut_out_row_is_a_word symbols start.requires.0 level _ _ h refl refl).0 (ap (λ (x : ℕ). 63 - x) t)
+    (put_is_pasted _ _ _ _ _ (omega (arith, row.0)) (omega (arith, row_data_within_200 level h, turn.loop-level.invariant.long_out, turn.loop-level.invariant.place, t)) c.put.auto.b c.put.ensures)
 
 pub returns : goal.returns
 returns c =

@@ -1,5 +1,5 @@
 -- `coding::data::symbols_of` meets its contract: the symbols of the first g groups are written. Assumes nothing.
-use Prim.Native.Nat.{◌-◌, ◌*◌}
+use Prim.Native.Nat.{◌*◌}
 use Rattle.concatenated.proofs.Filling.{Front}
 use Rattle.concatenated.specs.Format.{short_page}
 use Rattle.concatenated.specs.Data.{data_symbols}
@@ -7,6 +7,3 @@ use Rattle.coding.proofs.data.symbols_of.Given as goal
 
 abbrev pub invariant-loop-g : goal.invariant-loop-g
 invariant-loop-g l = Front (data_symbols short_page l.«data») l.out 200 (l.g * 4)
-
-abbrev pub decreases-loop-g : goal.decreases-loop-g
-decreases-loop-g l = 50 - l.g

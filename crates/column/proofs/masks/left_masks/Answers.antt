@@ -23,6 +23,6 @@ pub returns-then-level-lt2 : goal.returns-then-level-lt2
 unfolding mask_table tabulated mask_by residues product product_in remainder remainder_in reduced scale add
 returns-then-level-lt2 c = masks_known 30 _ _ (low c.args.level (omega arith)) _ refl
 
-pub returns : goal.returns
+pub returns-else-level-lt2 : goal.returns-else-level-lt2
 unfolding mask_table tabulated mask_by residues product product_in remainder remainder_in reduced scale add
-returns c = masks_known 30 _ _ (high c.args.level (omega arith)) _ refl
+returns-else-level-lt2 c = masks_known 30 _ _ (high c.args.level (omega arith)) _ refl

@@ -7,18 +7,18 @@ use Rattle.column.specs.Tabulated.{tabulated}
 use Rattle.column.proofs.MaskTable.{residues, mask_by, mask_table, masks_known_at}
 use Rattle.column.proofs.masks.right_masks.Goals as goal
 
-pub returns-then-level-eq0 : goal.returns-then-level-eq0
+pub returns-in-0 : goal.returns-in-0
 unfolding mask_table tabulated mask_by residues product product_in remainder remainder_in reduced scale add
-returns-then-level-eq0 c = masks_known_at 30 (λ i. (short.supercodes i).right) c.args.level 0 (omega arith) _ refl
+returns-in-0 c = masks_known_at 30 (λ i. (short.supercodes i).right) c.args.level 0 (omega arith) _ refl
 
-pub returns-then-level-eq1 : goal.returns-then-level-eq1
+pub returns-in-1 : goal.returns-in-1
 unfolding mask_table tabulated mask_by residues product product_in remainder remainder_in reduced scale add
-returns-then-level-eq1 c = masks_known_at 30 (λ i. (short.supercodes i).right) c.args.level 1 (omega arith) _ refl
+returns-in-1 c = masks_known_at 30 (λ i. (short.supercodes i).right) c.args.level 1 (omega arith) _ refl
 
-pub returns-then-level-eq2 : goal.returns-then-level-eq2
+pub returns-in-2 : goal.returns-in-2
 unfolding mask_table tabulated mask_by residues product product_in remainder remainder_in reduced scale add
-returns-then-level-eq2 c = masks_known_at 30 (λ i. (short.supercodes i).right) c.args.level 2 (omega arith) _ refl
+returns-in-2 c = masks_known_at 30 (λ i. (short.supercodes i).right) c.args.level 2 (omega arith) _ refl
 
-pub returns : goal.returns
+pub returns-in_default : goal.returns-in_default
 unfolding mask_table tabulated mask_by residues product product_in remainder remainder_in reduced scale add
-returns c = masks_known_at 30 (λ i. (short.supercodes i).right) c.args.level 3 (omega arith) _ refl
+returns-in_default c = masks_known_at 30 (λ i. (short.supercodes i).right) c.args.level 3 (omega arith) _ refl

@@ -7,17 +7,15 @@ use native.Mathlib.Omega.{arith}
 use Rattle.held.proofs.ready.all_placed.Goals as goal
 
 pub loop-j-init : goal.loop-j-init
-loop-j-init c = (omega arith, λ k h. absurd (omega arith))
+loop-j-init c = λ k h. absurd (omega arith)
 
 pub returns-then-not-is_placed : goal.returns-then-not-is_placed
 returns-then-not-is_placed c = refuted (λ all. fails c.is_placed.ensures (ap not c.if-not-is_placed.true) (all _ c.loop-j-test.true))
 
 pub loop-j-preserved : goal.loop-j-preserved
 loop-j-preserved c =
-    let i = c in
-    (omega (arith, i.loop-j-test.true), one_more (λ (k : ℕ). Placed _ k) _ i.loop-j.invariant.1 (c.is_placed.ensures.0 c.if-not-is_placed.false))
+    one_more (λ (k : ℕ). Placed _ k) _ c.loop-j.invariant (c.is_placed.ensures.0 c.if-not-is_placed.false)
 
 pub returns : goal.returns
 returns c =
-    let v = c.loop-j.invariant in
-    shown (λ k h. v.1 k (omega (arith, h, c.loop-j-test.false)))
+    shown (λ k h. c.loop-j.invariant k (omega (arith, h, c.loop-j-test.false)))

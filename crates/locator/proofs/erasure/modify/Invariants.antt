@@ -1,7 +1,7 @@
 -- `locator::erasure::modify` meets its contract: one entry a turn of the loop. Assumes nothing.
 use mathlib.Core.Path.{◌≡◌}
 use mathlib.Core.List.{List}
-use Prim.Native.Nat.{ℕ, suc, ◌-◌, ◌≤◌}
+use Prim.Native.Nat.{ℕ, suc}
 use lib.ListN.{length}
 use Rattle.poly.specs.Polynomial.{add}
 use Rattle.field.specs.Element.{mul}
@@ -13,7 +13,4 @@ abbrev meant : ℕ → List ℕ → ℕ → ℕ
 meant y s i = add (symbol s (suc i)) (mul 6 67 y (symbol s i))
 
 abbrev pub invariant-loop-i : goal.invariant-loop-i
-invariant-loop-i l = (l.i ≤ 32) × (length l.s ≡ length l.initial.s) × Written l.i (meant l.y l.initial.s) l.initial.s l.s
-
-abbrev pub decreases-loop-i : goal.decreases-loop-i
-decreases-loop-i l = 32 - l.i
+invariant-loop-i l = (length l.s ≡ length l.initial.s) × Written l.i (meant l.y l.initial.s) l.initial.s l.s

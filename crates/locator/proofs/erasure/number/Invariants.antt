@@ -1,12 +1,8 @@
 -- `locator::erasure::number` meets its contract: one mark a turn of the loop. Assumes nothing.
 use mathlib.Core.Path.{◌≡◌}
-use Prim.Native.Nat.{◌-◌, ◌≤◌}
 use Rattle.reedsolomon.specs.Words.{count}
 use Rattle.reedsolomon.specs.Row.{marked}
 use Rattle.locator.proofs.erasure.number.Given as goal
 
 abbrev pub invariant-loop-j : goal.invariant-loop-j
-invariant-loop-j l = (l.j ≤ 63) × (l.n ≡ count (marked l.marks) l.j)
-
-abbrev pub decreases-loop-j : goal.decreases-loop-j
-decreases-loop-j l = 63 - l.j
+invariant-loop-j l = l.n ≡ count (marked l.marks) l.j

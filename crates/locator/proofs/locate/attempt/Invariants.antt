@@ -1,12 +1,8 @@
 -- `locator::locate::attempt` meets its contract: one equation a turn of the loop. Assumes nothing.
 use mathlib.Core.Path.{◌≡◌}
-use Prim.Native.Nat.{◌-◌, ◌≤◌}
 use lib.ListN.{length}
 use Rattle.reedsolomon.specs.Steps.{RowAt}
 use Rattle.locator.proofs.locate.attempt.Given as goal
 
 abbrev pub invariant-loop-i : goal.invariant-loop-i
-invariant-loop-i l = (l.i ≤ l.n) × (length l.row ≡ 32) × RowAt 6 67 l.n l.m l.row l.b l.i
-
-abbrev pub decreases-loop-i : goal.decreases-loop-i
-decreases-loop-i l = l.n - l.i
+invariant-loop-i l = (length l.row ≡ 32) × RowAt 6 67 l.n l.m l.row l.b l.i

@@ -1,5 +1,6 @@
 use mathlib.Core.Path.{◌≡◌, ap, ◌∙◌, subst}
 use Prim.Native.Nat.{ℕ, ◌+◌, ◌≤◌, ◌<◌}
+use native.Mathlib.Nat.{le_refl}
 use native.Mathlib.Decide.{ℕ_discrete}
 use lib.Arith.{lt_of_le-ne}
 use lib.ListN.{length-set, replicate}
@@ -15,40 +16,7 @@ use Rattle.locator.proofs.locate.locator_polynomial.Goals as goal
 pub loop-b-init : goal.loop-b-init
 loop-b-init c =
     let a = c.args in
-    (search rules, search rules, search rules, none_used 6 67 field64 a.n a.m.now 16, slots_begin_at 6 67 field64 a.n a.m.now (replicate 512 0) 16)
-
-pub attempt-t-requires : goal.attempt-t-requires
-attempt-t-requires c =
-    let s = c in
-    let f = c.loop-b.invariant in
-    (omega arith, omega arith, omega arith, f.1, f.2, s.requires.2, f.4)
-
-pub returns-then-stop-n : goal.returns-then-stop-n
-returns-then-stop-n c =
-    let s = c in
-    let t = c.attempt-t in
-    let e : t.result.stop ≡ s.args.n = c.if-stop-n.true in
-    (c.loop-b.invariant.0, subst (RowAt 6 67 s.args.n s.args.m.now t.result.row c.loop-b.b) e t.ensures.row)
-
-pub overflow_mul-stop : goal.overflow_mul-stop
-overflow_mul-stop c = let h = lt_of_le-ne c.attempt-t.ensures.within c.if-stop-n.false in omega arith
-
-pub put-requires : goal.put-requires
-put-requires c =
-    let t = c.attempt-t in
-    let s = c in
-    let h : t.result.stop < s.args.n = lt_of_le-ne t.ensures.within c.if-stop-n.false in
-    (omega arith, omega arith)
-
-pub bounds-row-stop : goal.bounds-row-stop
-bounds-row-stop c =
-    let t = c.attempt-t in
-    let s = c in
-    let h : t.result.stop < s.args.n = lt_of_le-ne t.ensures.within c.if-stop-n.false in
-    omega arith
-
-pub bounds-qs-stop : goal.bounds-qs-stop
-bounds-qs-stop c = let h = lt_of_le-ne c.attempt-t.ensures.within c.if-stop-n.false in omega arith
+    (search rules, search rules, none_used 6 67 field64 a.n a.m.now 16, slots_begin_at 6 67 field64 a.n a.m.now (replicate 512 0) 16)
 
 pub loop-b-preserved : goal.loop-b-preserved
 loop-b-preserved c =
@@ -56,30 +24,23 @@ loop-b-preserved c =
     let n = s.args.n in
     let m = s.args.m.now in
     let l = c.loop-b in
-    let t = c.attempt-t in
+    let t = c.attempt-stop in
     let p = c.put in
     let q = c.inverse.result in
     let h : t.result.stop < n = lt_of_le-ne t.ensures.within c.if-stop-n.false in (
-      omega arith,
-      p.auto.b ∙ l.invariant.1,
-      length-set l.qs t.result.stop q ∙ l.invariant.2,
-      one_more_used 6 67 field64 n m l.slots p.new.b l.qs t.result.row q l.b t.result.stop h s.requires.0 l.invariant.2 t.ensures c.inverse.ensures
-          ∙ ap (λ (x : ℕ). x + 1) l.invariant.3,
-      row_is_kept_at 6 67 field64 n m l.slots p.new.b l.qs t.result.row q l.b t.result.stop h s.requires.0 l.invariant.2 t.ensures c.inverse.ensures
-          l.invariant.4 p.ensures,
+      p.auto.b ∙ l.invariant.0,
+      length-set l.qs t.result.stop q ∙ l.invariant.1,
+      one_more_used 6 67 field64 n m l.slots p.new.b l.qs t.result.row q l.b t.result.stop h s.requires.0 l.invariant.1 t.ensures c.inverse.ensures
+          ∙ ap (λ (x : ℕ). x + 1) l.invariant.2,
+      row_is_kept_at 6 67 field64 n m l.slots p.new.b l.qs t.result.row q l.b t.result.stop h s.requires.0 l.invariant.1 t.ensures c.inverse.ensures
+          l.invariant.3 p.ensures,
     )
-
-pub attempt-t-requires-2 : goal.attempt-t-requires-2
-attempt-t-requires-2 c =
-    let s = c in
-    let f = c.loop-b.invariant in
-    (omega arith, omega arith, omega arith, f.1, f.2, s.requires.2, f.4)
 
 pub returns : goal.returns
 returns c =
     let s = c in
     let l = c.loop-b in
-    let t = c.attempt-t-2 in
+    let t = c.attempt in
     let full : s.args.n ≤ nonzeros ℕ_discrete 0 s.args.n (symbol l.qs) = omega arith in
-    let e : t.result.stop ≡ s.args.n = row_finishes 6 67 field64 s.args.n s.args.m.now l.qs t.result.row l.b t.result.stop full t.ensures in
-    (l.invariant.0, subst (RowAt 6 67 s.args.n s.args.m.now t.result.row l.b) e t.ensures.row)
+    let e : t.result.stop ≡ s.args.n = row_finishes 6 67 field64 s.args.n s.args.m.now l.qs t.result.row s.args.n t.result.stop full t.ensures in
+    (le_refl s.args.n, subst (RowAt 6 67 s.args.n s.args.m.now t.result.row s.args.n) e t.ensures.row)

@@ -1,7 +1,7 @@
 -- `locator::root::all_values` meets its contract: one block a turn of the loop. Assumes nothing.
 use mathlib.Core.Path.{◌≡◌}
 use mathlib.Core.List.{List}
-use Prim.Native.Nat.{ℕ, ◌-◌, ◌*◌, ◌≤◌}
+use Prim.Native.Nat.{ℕ, ◌*◌}
 use lib.ListN.{length}
 use Rattle.reedsolomon.specs.Row.{symbol}
 use Rattle.reedsolomon.specs.Steps.{Entries, row_value}
@@ -11,7 +11,4 @@ abbrev meant : List ℕ → ℕ → List ℕ → ℕ → ℕ
 meant row d all j = row_value 6 67 row d (symbol all j)
 
 abbrev pub invariant-loop-b : goal.invariant-loop-b
-invariant-loop-b l = (l.b ≤ 4) × (length l.r ≡ 64) × Entries (l.b * 16) (meant l.row l.d l.all) l.r
-
-abbrev pub decreases-loop-b : goal.decreases-loop-b
-decreases-loop-b l = 4 - l.b
+invariant-loop-b l = (length l.r ≡ 64) × Entries (l.b * 16) (meant l.row l.d l.all) l.r

@@ -1,12 +1,8 @@
 -- `locator::root::locations` meets its contract: one column a turn of the loop. Assumes nothing.
 use mathlib.Core.Path.{◌≡◌}
-use Prim.Native.Nat.{◌-◌, ◌≤◌}
 use lib.ListN.{length}
 use Rattle.reedsolomon.specs.Steps.{Flagged}
 use Rattle.locator.proofs.root.locations.Given as goal
 
 abbrev pub invariant-loop-j : goal.invariant-loop-j
-invariant-loop-j l = (l.j ≤ 63) × (length l.flags ≡ 64) × Flagged 6 67 l.j l.marks l.values l.flags
-
-abbrev pub decreases-loop-j : goal.decreases-loop-j
-decreases-loop-j l = 63 - l.j
+invariant-loop-j l = (length l.flags ≡ 64) × Flagged 6 67 l.j l.marks l.values l.flags

@@ -1,7 +1,7 @@
 -- `locator::root::raised` meets its contract: one entry a turn of the loop. Assumes nothing.
 use mathlib.Core.Path.{◌≡◌}
 use mathlib.Core.List.{List}
-use Prim.Native.Nat.{ℕ, ◌-◌, ◌≤◌}
+use Prim.Native.Nat.{ℕ}
 use lib.ListN.{length}
 use Rattle.poly.specs.Polynomial.{add}
 use Rattle.field.specs.Element.{mul}
@@ -13,7 +13,4 @@ abbrev meant : List ℕ → ℕ → List ℕ → ℕ → ℕ
 meant xs c v i = add (mul 6 67 (symbol xs i) (symbol v i)) c
 
 abbrev pub invariant-loop-i : goal.invariant-loop-i
-invariant-loop-i l = (l.i ≤ 16) × (length l.v ≡ length l.initial.v) × Written l.i (meant l.xs l.c l.initial.v) l.initial.v l.v
-
-abbrev pub decreases-loop-i : goal.decreases-loop-i
-decreases-loop-i l = 16 - l.i
+invariant-loop-i l = (length l.v ≡ length l.initial.v) × Written l.i (meant l.xs l.c l.initial.v) l.initial.v l.v

@@ -10,7 +10,7 @@ use borrow.Author.Rules.{rules}
 use Rattle.locator.proofs.root.values.Goals as goal
 
 pub loop-k-init : goal.loop-k-init
-loop-k-init c = (search rules, search rules, values_begin 6 67 field64 16 (reversed (suc c.args.d) (coefficient 6 67 c.args.row.now)) c.args.xs)
+loop-k-init c = (search rules, values_begin 6 67 field64 16 (reversed (suc c.args.d) (coefficient 6 67 c.args.row.now)) c.args.xs)
 
 pub loop-k-preserved : goal.loop-k-preserved
 loop-k-preserved c =
@@ -18,14 +18,13 @@ loop-k-preserved c =
     let l = c.loop-k in
     let r = c.raised in
     let e : 16 + (a.d - l.k) ≡ 16 + (suc a.d - suc l.k) = omega arith in (
-      omega arith,
-      r.auto.v ∙ l.invariant.1,
-      values_go_on 6 67 field64 (reversed (suc a.d) (coefficient 6 67 a.row.now)) a.xs l.v r.new.v l.k _ (ap (symbol a.row.now) e) l.invariant.2 r.ensures,
+      r.auto.v ∙ l.invariant.0,
+      values_go_on 6 67 field64 (reversed (suc a.d) (coefficient 6 67 a.row.now)) a.xs l.v r.new.v l.k _ (ap (symbol a.row.now) e) l.invariant.1 r.ensures,
     )
 
 pub returns : goal.returns
 unfolding row_value
 returns c =
     let e : c.loop-k.k ≡ suc c.args.d = omega arith in
-    λ i l. c.loop-k.invariant.2 i l
+    λ i l. c.loop-k.invariant.1 i l
     ∙ ap (λ (n : ℕ). value_at 6 67 field64 n (reversed (suc c.args.d) (coefficient 6 67 c.args.row.now)) c.args.xs i) e

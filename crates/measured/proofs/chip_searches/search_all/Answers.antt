@@ -1,46 +1,28 @@
-use mathlib.Core.Path.{◌≡◌, refl, ap, ◌∙◌}
-use Prim.Native.Nat.{◌+◌, ◌-◌, ◌%◌, ◌≤◌, ◌<◌}
-use lib.ListN.{length, take, drop}
+use Rattle.std.proofs.Common.{◌+◌, ◌-◌, ◌*◌, ◌≤◌, length, take, drop, ap, arith}
+use mathlib.Core.Path.{◌∙◌}
 use Rattle.trellis.specs.Demand.{supercode}
 use Rattle.search.proofs.ShortSearch.{column_searchable}
 use Rattle.chip.proofs.ShortSearch.{leading_tables}
 use Rattle.measured.specs.Folds.{chip_folded, chip_number}
-use Rattle.measured.proofs.Parts.{part_long, part_range, none_folded, one_more_folded, all_folded}
-use native.Mathlib.Omega.{arith}
-use borrow.Author.Rules.{rules}
+use Rattle.measured.proofs.Parts.{part_long, part_range, none_folded, one_more_folded}
 use Rattle.measured.proofs.chip_searches.search_all.Goals as goal
 
-pub loop-a-init : goal.loop-a-init
-loop-a-init c = (search rules, search rules, record { sums = refl; lens = refl; bits = refl }, none_folded _ _)
+pub loop-j-init : goal.loop-j-init
+loop-j-init c = none_folded _ _
 
-pub search_column-ended-requires : goal.search_column-ended-requires
-search_column-ended-requires c =
+pub search_column-ended-requires-clause-searchable30 : goal.search_column-ended-requires-clause-searchable30
+search_column-ended-requires-clause-searchable30 c =
     let soft = c.args.soft.now in
-    let from = c.loop-a.a in
-    let fits : from + 30 ≤ length soft = omega (arith, c.loop-a.invariant.0) in
-    let tables = c.tables_of-tables.ensures in record {
-      searchable30 = column_searchable supercode c.args.level c.requires.level_bound (take (from + 30 - from) (drop from soft)) _ _ _ (part_long soft from fits) (part_range soft from fits c.requires.by_index) tables;
-      leading = leading_tables c.args.level c.requires.level_bound _ _ _ tables;
-      places = c.loop-a.invariant.2;
-    }
+    let a = c.loop-j.j * 30 in
+    let fits : a + 30 ≤ length soft = omega (arith, c.loop-j-test.true) in
+    let t = c.trellis.ensures in
+    rw (t.1, t.2, t.3, t.4) (column_searchable supercode c.args.level c.requires.level_bound (take (a + 30 - a) (drop a soft)) _ _ _ (part_long soft a fits) (part_range soft a fits c.requires.by_index) c.tables_of-tables.ensures)
 
-pub loop-a-preserved : goal.loop-a-preserved
-loop-a-preserved c =
-    let soft = c.args.soft.now in
-    let from = c.loop-a.a in
-    let inv = c.loop-a.invariant in
-    let fits : from + 30 ≤ length soft = omega (arith, inv.0, c.loop-a-test.true) in
-    let whole : (from + 30) % 30 ≡ 0 = omega (arith, inv.1) in
-    let outcome = c.search_column-ended.ensures.by_index c.args.level c.requires.level_bound c.tables_of-tables.ensures in (
-      fits,
-      whole,
-      c.search_column-ended.ensures.places_2,
-      one_more_folded (chip_number c.args.level c.args.limit) soft from _ _ inv.1 inv.3 (c.chip_folded-fold.ensures ∙ ap chip_folded outcome),
-    )
+pub search_column-ended-requires-clause-leading : goal.search_column-ended-requires-clause-leading
+search_column-ended-requires-clause-leading c = rw c.trellis.ensures.4 (leading_tables c.args.level c.requires.level_bound _ _ _ c.tables_of-tables.ensures)
 
-pub returns : goal.returns
-returns c =
-    let inv = c.loop-a.invariant in
-    let soft = c.args.soft.now in
-    let last : length soft - c.loop-a.a < 30 = omega (arith, c.loop-a-test.false) in
-    all_folded _ soft _ _ inv.1 inv.0 last inv.3
+pub loop-j-preserved : goal.loop-j-preserved
+loop-j-preserved c =
+    let t = c.trellis.ensures in
+    let outcome = c.search_column-ended.ensures c.args.level c.requires.level_bound (rw (t.2, t.3, t.4) c.tables_of-tables.ensures) in
+    one_more_folded (chip_number c.args.level c.args.limit) c.args.soft.now c.loop-j.j _ _ c.loop-j.invariant (c.chip_folded-fold.ensures ∙ ap chip_folded (rw t.1 at outcome))

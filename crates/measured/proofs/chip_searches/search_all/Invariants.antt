@@ -1,14 +1,7 @@
--- `measured::chip_searches::search_all` meets its contract. The loop's invariant: the columns before a are searched, and the arrays keep their places. Assumes nothing.
-use mathlib.Core.Path.{◌≡◌}
-use Prim.Native.Nat.{◌-◌, ◌%◌, ◌≤◌}
-use lib.ListN.{length}
-use Rattle.chip.specs.Places.{Places}
-use Rattle.measured.specs.Folds.{chip_number}
-use Rattle.measured.proofs.Parts.{Folded}
+-- `measured::chip_searches::search_all` meets its contract. The loop's invariant: the first j columns are searched. Assumes nothing.
+use Rattle.std.proofs.Common.{◌≡◌}
+use Rattle.measured.specs.Folds.{folded_columns, chip_number}
 use Rattle.measured.proofs.chip_searches.search_all.Given as goal
 
-abbrev pub invariant-loop-a : goal.invariant-loop-a
-invariant-loop-a l = (l.a ≤ length l.soft) × (l.a % 30 ≡ 0) × Places l.sums l.lens l.bits × Folded (chip_number l.level l.limit) l.soft l.a l.fold
-
-abbrev pub decreases-loop-a : goal.decreases-loop-a
-decreases-loop-a l = length l.soft - l.a
+abbrev pub invariant-loop-j : goal.invariant-loop-j
+invariant-loop-j l = l.fold ≡ folded_columns (chip_number l.level l.limit) l.soft l.j

@@ -1,5 +1,5 @@
 -- `search::short_page::level_values` meets its contract: the first k entries of 01's table are raised. Assumes nothing.
-use Prim.Native.Nat.{◌*◌, ◌-◌, ◌≤◌}
+use Prim.Native.Nat.{◌*◌}
 use lib.IntN.{pos}
 use Rattle.trellis.specs.Values.{values}
 use Rattle.extension.specs.Steps.{table_of}
@@ -7,7 +7,4 @@ use Rattle.search.proofs.Tables.{RaisedUpTo}
 use Rattle.search.proofs.short_page.level_values.Given as goal
 
 abbrev pub invariant-loop-k : goal.invariant-loop-k
-invariant-loop-k l = (l.k ≤ 16) × RaisedUpTo (pos (2 * l.level)) (table_of values) l.k l.table
-
-abbrev pub decreases-loop-k : goal.decreases-loop-k
-decreases-loop-k l = 16 - l.k
+invariant-loop-k l = RaisedUpTo (pos (2 * l.level)) (table_of values) l.k l.table

@@ -1,5 +1,4 @@
 -- `softpage::look::load` meets its contract: the first j columns are those of the page. Assumes nothing.
-use Prim.Native.Nat.{◌-◌}
 use Rattle.concatenated.proofs.Filling.{Front}
 use Rattle.concatenated.specs.Format.{short_page}
 use Rattle.concatenated.specs.SoftPage.{soft_columns}
@@ -7,6 +6,3 @@ use Rattle.softpage.proofs.look.load.Given as goal
 
 abbrev pub invariant-loop-j : goal.invariant-loop-j
 invariant-loop-j l = Front (soft_columns short_page l.soft) l.work 63 l.j
-
-abbrev pub decreases-loop-j : goal.decreases-loop-j
-decreases-loop-j l = 63 - l.j

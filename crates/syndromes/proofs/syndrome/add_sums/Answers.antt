@@ -1,4 +1,4 @@
-use mathlib.Core.Path.{◌≡◌, ap₂, ◌∙◌}
+use mathlib.Core.Path.{ap₂, ◌∙◌}
 use Prim.Native.Nat.{◌+◌}
 use native.Mathlib.Nat.{le_refl}
 use lib.Bits.{bit_xor}
@@ -13,7 +13,7 @@ use borrow.Author.Rules.{rules}
 use Rattle.syndromes.proofs.syndrome.add_sums.Goals as goal
 
 pub loop-i-init : goal.loop-i-init
-loop-i-init c = (search rules, search rules, search rules, weights_begin 6 67 field64 16 c.args.w c.args.xs c.requires.1, nothing_written _ _)
+loop-i-init c = (search rules, search rules, weights_begin 6 67 field64 16 c.args.w c.args.xs c.requires.1, nothing_written _ _)
 
 pub loop-i-preserved : goal.loop-i-preserved
 unfolding add
@@ -21,14 +21,10 @@ loop-i-preserved c =
     let a = c.args in
     let l = c.loop-i in
     let p = c.powered in
-    let h : Entries 16 (weight 6 67 field64 a.w a.xs (l.i + 1)) p.new.c = weights_go_on 6 67 field64 16 a.w a.xs l.c p.new.c l.i l.invariant.3 p.ensures in (
-      omega arith,
+    let h : Entries 16 (weight 6 67 field64 a.w a.xs (l.i + 1)) p.new.c = weights_go_on 6 67 field64 16 a.w a.xs l.c p.new.c l.i l.invariant.2 p.ensures in (
       simp length-set (omega arith),
-      p.auto.c ∙ l.invariant.2,
+      p.auto.c ∙ l.invariant.1,
       h,
-      one_more_written _ _ _ _ _ l.invariant.4 (omega arith)
-          (ap₂ bit_xor (l.invariant.4.kept l.i (le_refl l.i)) (c.total.ensures ∙ sum_of_weights 6 67 field64 16 a.w a.xs p.new.c l.i h)),
+      one_more_written _ _ _ _ _ l.invariant.3 (omega arith)
+          (ap₂ bit_xor (l.invariant.3.kept l.i (le_refl l.i)) (c.total.ensures ∙ sum_of_weights 6 67 field64 16 a.w a.xs p.new.c l.i h)),
     )
-
-pub returns : goal.returns
-returns c = let e : c.loop-i.i ≡ c.args.t = omega arith in rw e at c.loop-i.invariant.4

@@ -1,7 +1,7 @@
 -- `syndromes::syndrome::powered` meets its contract: one entry a turn of the loop. Assumes nothing.
 use mathlib.Core.Path.{◌≡◌}
 use mathlib.Core.List.{List}
-use Prim.Native.Nat.{ℕ, ◌-◌, ◌≤◌}
+use Prim.Native.Nat.{ℕ}
 use lib.ListN.{length}
 use Rattle.field.specs.Element.{mul}
 use Rattle.reedsolomon.specs.Row.{symbol}
@@ -12,7 +12,4 @@ abbrev meant : List ℕ → List ℕ → ℕ → ℕ
 meant xs c i = mul 6 67 (symbol xs i) (symbol c i)
 
 abbrev pub invariant-loop-i : goal.invariant-loop-i
-invariant-loop-i l = (l.i ≤ 16) × (length l.c ≡ length l.initial.c) × Written l.i (meant l.xs l.initial.c) l.initial.c l.c
-
-abbrev pub decreases-loop-i : goal.decreases-loop-i
-decreases-loop-i l = 16 - l.i
+invariant-loop-i l = (length l.c ≡ length l.initial.c) × Written l.i (meant l.xs l.initial.c) l.initial.c l.c

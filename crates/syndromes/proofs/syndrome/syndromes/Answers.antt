@@ -2,13 +2,7 @@
 use lib.Dec.{lit≤}
 use Rattle.field.proofs.Short.{field64}
 use Rattle.reedsolomon.proofs.Lanes.{syndromes_by_sums}
-use native.Mathlib.Omega.{arith}
 use Rattle.syndromes.proofs.syndrome.syndromes.Goals as goal
-
-pub summed-requires : goal.summed-requires
-summed-requires c =
-    let s = c in
-    (omega arith, s.requires.1, s.requires.0, omega arith, s.requires.2.inside)
 
 pub returns : goal.returns
 returns c =

@@ -1,8 +1,0 @@
--- `held_entries::entry_take_up` meets its contract: the call's outcome, its answer as numbers. Assumes nothing.
-use mathlib.Core.Path.{ap}
-use Rattle.entries.specs.declared.Found.{Found}
-use Rattle.held_entries.proofs.entry_take_up.Goals as goal
-
-pub returns : goal.returns
-returns c =
-    record { outcome = _; call = c.take_up-outcome.ensures; told = ap (λ (r : Found). record { found = r; store = c.take_up-outcome.result.store }) c.numbers_of_search.ensures }
