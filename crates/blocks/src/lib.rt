@@ -115,11 +115,8 @@ pub fn fixed_right(block: &[u8], b: usize) -> bool
     requires { (length block.now ≡ 512) × (b < 4) }
     ensures { result ≡ fixed_right block.now b }
 {
-    if !fixed_from(block, b, 0, 16) {
-        return false;
-    }
     let values = values_of(b);
-    fixed_from(block, b, 16 + values, 494 - values)
+    fixed_from(block, b, 0, 16) && fixed_from(block, b, 16 + values, 494 - values)
 }
 
 // Question 8: whether the check of a block is right.

@@ -9,7 +9,7 @@ ghost use Rattle.poly.specs.Polynomial.{scale, remainder as remainder_of, Degree
 ghost use Rattle.column.specs.Shape.{short, generator as generator_of, degree};
 ghost use Rattle.column.specs.Level.{level_word, column_of, reimaged, is_word};
 
-// p where the digit q is 1, else 0: a product, since a branch on a digit is mispredicted half of the time
+// p where the digit q is 1, else 0: a product, not a choice as in `field` and `syndromes`, since a branch on a digit is mispredicted half of the time
 fn pick(p: u64, q: u64) -> u64
     requires { q < 2 }
     ensures { result ≡ scale (q % 2) p }
@@ -26,7 +26,7 @@ pub fn remainder(w: u64, k: usize, d: usize, g: u64) -> u64
 {
     let mut r = w;
     for i in (0..k).rev() {
-        r = r ^ pick(g << i, r >> (d + i));
+        r ^= pick(g << i, r >> (d + i));
     }
     r
 }
@@ -96,7 +96,7 @@ pub fn reimage(level: usize, column: u64) -> u64
 {
     let mut w = column;
     for i in (level + 1..4).rev() {
-        w = w ^ level_word(i, w >> degree_of(i));
+        w ^= level_word(i, w >> degree_of(i));
     }
     w >> degree_of(level)
 }

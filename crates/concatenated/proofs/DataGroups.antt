@@ -126,6 +126,3 @@ one_more_row_behind rows out after i f h four long e =
           ap (λ (k : ℕ). take k after) next ∙ put.1 ∙ ap (λ (r : List ℕ). row_after_row (take i rows) ++ r) (take_all 63 row (omega (arith, long)))
           ∙ sym (row_after_row_more (take i rows) row) ∙ ap row_after_row (sym (take-suc rows i [] (omega (arith, four, h)))) ∙ ap (λ (k : ℕ). row_after_row (take k rows)) (sym (add-one i));
     }
-
-pub all_rows_behind : (rows : List (List ℕ)) (out : List ℕ) (i : ℕ) → RowsBehind rows out i → length rows ≡ 4 → 4 ≤ i → out ≡ row_after_row rows
-all_rows_behind rows out i f four h = sym (take_all (i * 63) out (omega (arith, f.long_out, h))) ∙ f.so_far ∙ ap row_after_row (take_all i rows (omega (arith, four, h)))

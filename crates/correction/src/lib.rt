@@ -61,5 +61,5 @@ pub fn wrong(w: &[u8], v: &[u8], marks: &[u8]) -> usize
     for j in 0..63 {
         e += differs(marks[j], w[j], v[j]);
     }
-    e as usize
+    usize::from(e)
 }

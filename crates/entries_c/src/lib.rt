@@ -11,7 +11,7 @@ ghost use Rattle.dump.specs.Dump.{dump_of, soft_of};
 ghost use Rattle.reedsolomon.specs.ShortRows.{short_roots};
 ghost use Rattle.store_rows.specs.Rows.{encode_row_answer, decode_row_answer};
 ghost use Rattle.store_dumps.specs.Dumps.{write_answer, read_answer};
-ghost use Rattle.entries.specs.Told.{told_of, found_of, reply_of, Replied, page_reply_of, PageReplied};
+ghost use Rattle.entries.specs.Told.{told_of, found_of, Replied, PageReplied};
 ghost use Rattle.concatenated.specs.Format.{short_page};
 ghost use Rattle.concatenated.specs.Places.{placed_at};
 ghost use Rattle.concatenated.specs.SoftPage.{column_part};

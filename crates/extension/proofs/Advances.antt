@@ -41,10 +41,6 @@ good_small n k h g = record { len = omega (arith, g.short); bits = omega (arith,
 pub good_none : (n : ℕ) → Good n (key (pos 0) 0 0)
 good_none n = record { short = omega arith; small = omega arith; near = omega arith }
 
--- a path shorter than a word has a number that can be doubled
-pub good_double : (n : ℕ) (k : Key) → n ≤ 42 → k.len < n → Good n k → k.bits < 2199023255552
-good_double n k h l g = omega (arith, g.small, pow_mono {i = k.len} {j = 41} (omega arith))
-
 went : (P : Key → Type 0) (f : ℕ → Key) (n : ℕ) (x y : Key) → ((h : Key → ℕ) → h y ≤ weigh h f n + h x) → P x → Every P f n → P y
 went = out_kept Upto key_dec upto_same upto_anti upto_trans
 

@@ -10,7 +10,8 @@ ghost use Rattle.field.specs.Element.{mul, inverse as inverse_of, α};
 // written out. A loop over a block of bytes that calls it then runs sixteen bytes at a time. Let the operand that stays the same through the
 // loop come first: its multiples by powers of α are taken out of the loop.
 
-// p where the lowest digit of q is set, else 0
+// p where the lowest digit of q is set, else 0: a choice on bytes, which is made without a branch, sixteen at a time. The choices on 64 bits, that of
+// `syndromes` and `column`'s product, are other functions: each is written in the form that was measured as fastest where it stands.
 fn pick(p: u8, q: u8) -> u8
     ensures { result ≡ scale (q % 2) p }
 {

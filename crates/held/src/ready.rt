@@ -32,16 +32,7 @@ fn is_placed(held: &Held, j: usize) -> bool
     ensures { (result ≡ true) ↔ Placed (paths_of held.now) j }
 {
     let path = held.path(j);
-    if path.len == 0 {
-        return false;
-    }
-    if !is_good(path) {
-        return false;
-    }
-    if j == 0 {
-        return true;
-    }
-    !path.stands_before(held.path((j - 1) / 4))
+    path.len != 0 && is_good(path) && (j == 0 || !path.stands_before(held.path((j - 1) / 4)))
 }
 
 // Whether all paths are so.
@@ -62,17 +53,9 @@ pub fn is_ready(held: &Held) -> bool
     requires { held.now.limit ≤ 2000 }
     ensures { (result ≡ true) ↔ Ready held.now }
 {
-    if 4 <= held.level {
-        return false;
-    }
-    if questions::first_above(&held.column, 7) < 30 {
-        return false;
-    }
-    if held.limit < held.paths as u64 {
-        return false;
-    }
-    if !is_good(held.last_taken()) {
-        return false;
-    }
-    all_placed(held)
+    held.level < 4
+        && 30 <= questions::first_above(&held.column, 7)
+        && held.paths as u64 <= held.limit
+        && is_good(held.last_taken())
+        && all_placed(held)
 }

@@ -1,5 +1,4 @@
 pub mod TwoRuns
 pub mod Reading
 pub mod Checked
-pub mod Thresholds
 pub mod ShortTwo

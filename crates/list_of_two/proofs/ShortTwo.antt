@@ -1,5 +1,5 @@
 -- The short page's search in a way, by lent tables, is 01's search, or 02's with list of two, with the values of the level. Assumes nothing.
-use mathlib.Core.Bool.{Bool, true, false, cond, true≢false, false≢true}
+use mathlib.Core.Bool.{Bool, true, false, cond, false≢true}
 use mathlib.Core.List.{List}
 use mathlib.Core.Path.{◌≡◌, refl, sym, ap, ap₂, ◌∙◌}
 use Prim.Native.Nat.{ℕ, ◌^◌, ◌≤◌, ◌<◌}
@@ -58,11 +58,6 @@ module _ (i : ℕ) (soft : List ℕ) (read : ℕ) (e : read ≡ checked_word i (
   pub is_searched : (threshold : Option ℤ) → is_some threshold ≡ true → 2 ^ 30 ≤ read → None ≡ unsearched_word (choice threshold) i soft
   is_searched None with_list above = absurd (false≢true with_list)
   is_searched (Some threshold) with_list above = ap told (sym (read_above_is_no_word i _ read (hard_path_below soft 30) e above))
-
--- without list of two nothing is returned unsearched
-pub none_unsearched : (threshold : Option ℤ) (i : ℕ) (soft : List ℕ) → is_some threshold ≡ false → None ≡ unsearched_word (choice threshold) i soft
-none_unsearched None i soft e = refl
-none_unsearched (Some t) i soft e = absurd (true≢false e)
 
 -- only with list of two is a word returned unsearched
 pub word_is_of_the_list : (threshold : Option ℤ) (i : ℕ) (soft : List ℕ) (x : ℕ) → unsearched_word (choice threshold) i soft ≡ Some x → is_some threshold ≡ true

@@ -90,14 +90,10 @@ pub fn way_of(limit: u64, in_supercodes: bool, threshold: Option<i64>) -> Way
     requires { threshold_allowed (choice threshold) ≡ true }
     ensures { (result.limit ≡ limit) × (result.in_supercodes ≡ in_supercodes) × (result.threshold ≡ threshold) }
 {
-    let threshold = match threshold {
-        Some(sum) => Some(sum as i16),
-        None => None,
-    };
     Way {
         limit,
         in_supercodes,
-        threshold,
+        threshold: threshold.map(|sum| sum as i16),
     }
 }
 

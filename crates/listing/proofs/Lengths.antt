@@ -3,7 +3,7 @@ use Rattle.std.proofs.Common.{◌≡◌, List, [], ◌∷◌, ℕ, zero, suc, �
 use lib.Dec.{ltb}
 use Rattle.std.specs.Prelude.{get_or}
 use Rattle.io.specs.Digits.{last_digits}
-use Rattle.listing.specs.Text.{ascii, decimal, decimal_in, hex_of, hex_mark}
+use Rattle.listing.specs.Text.{ascii, decimal, decimal_in, hex_of}
 use Rattle.listing.specs.Lines.{ok_line, columns_text, level_line, level_lines, data_line, refused_line, census_line}
 
 -- one of two lists, neither longer than k
@@ -22,9 +22,6 @@ decimal_length n = decimal_in_length 20 n
 last_digits_length : (b k n : ℕ) → length (last_digits b k n) ≡ k
 last_digits_length b zero n = refl
 last_digits_length b (suc k) n = simp length-append (omega (arith, last_digits_length b k (n / b)))
-
-pub hex_mark_length : (n : ℕ) → length (hex_mark n) ≡ 16
-hex_mark_length n = last_digits_length 16 16 n
 
 pub hex_of_length : (bs : List ℕ) → length (hex_of bs) ≡ 2 * length bs
 unfolding hex_of

@@ -17,7 +17,7 @@ pub fn number(marks: &[u8]) -> usize
     for j in 0..63 {
         n += u8::from(marks[j] == 1);
     }
-    n as usize
+    usize::from(n)
 }
 
 // The locator y is taken out of the first 33 entries of s.

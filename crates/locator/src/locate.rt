@@ -1,5 +1,5 @@
 // The locator polynomial by elimination: a row of 32 entries is 16 combinations and then 16 coefficients, and each equation has a slot for an earlier row.
-ghost use Rattle.std.specs.Prelude.{◌≡◌, ℕ, ◌+◌, ◌*◌, ◌≤◌, length};
+ghost use Rattle.std.specs.Prelude.{◌≡◌, ℕ, ◌+◌, ◌*◌, ◌≤◌, ◌<◌, length, Some, unwrap_or};
 ghost use Rattle.poly.specs.Polynomial.{add};
 ghost use Rattle.field.specs.Element.{mul};
 ghost use Rattle.reedsolomon.specs.Row.{symbol, Symbols};
@@ -28,31 +28,32 @@ fn combine(row: &mut [u8], slots: &[u8], k: usize, t: u8)
     lists::add_multiple(row, slots, k * 32, 32, t);
 }
 
-// A row that was tried, and the equation at which it stopped.
+// A row that was tried, and the equation at which it stopped; none, if it meets them all.
 #[derive(Drop)]
 pub struct Tried {
     pub row: [u8; 32],
-    pub stop: usize,
+    pub stop: Option<usize>,
 }
 
 // The row of degree b, to which the rows in the slots are added as long as there is one where it is needed.
 fn attempt(m: &[u8], n: usize, slots: &[u8], qs: &[u8], b: usize) -> Tried
     requires { (n ≤ 15) × (b ≤ n) × (31 ≤ length m.now) × (length slots.now ≡ 512) × (length qs.now ≡ 16) × Symbols 6 m.now × SlotsAt 6 67 n m.now slots.now qs.now b }
-    ensures { StoppedAt 6 67 n m.now qs.now result.row b result.stop }
+    ensures { StoppedAt 6 67 n m.now qs.now result.row b (unwrap_or result.stop n) × ((i : ℕ) → result.stop ≡ Some i → i < n) }
 {
     let mut row = begun(m, b);
     for i in 0..n {
         let v = row[i];
         if v != 0 {
             let q = qs[i];
+            // the slot is empty: an inverse is never 0
             if q == 0 {
-                return Tried { row, stop: i };
+                return Tried { row, stop: Some(i) };
             }
             let t = field::product(v, q);
             combine(&mut row, slots, i, t);
         }
     }
-    Tried { row, stop: n }
+    Tried { row, stop: None }
 }
 
 // A locator polynomial: its row, and the degree.
@@ -71,11 +72,11 @@ pub fn locator_polynomial(m: &[u8], n: usize) -> Located
     let mut qs = [0u8; 16];
     for b in 0..n {
         let Tried { row, stop } = attempt(m, n, &slots, &qs, b);
-        if stop == n {
+        let Some(i) = stop else {
             return Located { row, degree: b };
-        }
-        lists::put(&row, 32, stop * 32, &mut slots);
-        qs[stop] = field::inverse(row[stop]);
+        };
+        lists::put(&row, 32, i * 32, &mut slots);
+        qs[i] = field::inverse(row[i]);
     }
     let Tried { row, .. } = attempt(m, n, &slots, &qs, n);
     Located { row, degree: n }

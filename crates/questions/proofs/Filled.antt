@@ -16,10 +16,6 @@ refused e = filled (sym e) refl
 pub done : {due : Outcome} {made old new : List ℕ} → due ≡ all_done → new ≡ made → Filled due made old all_done new
 done e is = filled (sym e) is
 
--- refused after the work was tried: what was lent is as it was
-pub refused_unwritten : {due : Outcome} {made old new : List ℕ} {q : Question} {p : ℕ} → due ≡ refused_by q p → new ≡ old → Filled due made old (refused_by q p) new
-refused_unwritten e is = filled (sym e) is
-
 -- demand 1: "with no byte of a lent buffer changed": where the number is not 0, the buffer is as it was
 pub refused_buffer_is_untouched : {due r : Outcome} {made old new : List ℕ} → Filled due made old r new → (number r ≡ 0 → ⊥) → new ≡ old
 refused_buffer_is_untouched {due} {r} {made} {old} {new} f other = by due f.bytes (λ e. other (f.number ∙ e))

@@ -59,9 +59,6 @@ pub record RaisedUpTo (r : ℤ) (old : List ℤ) (k : ℕ) (table : List ℤ) : 
   pub raised : (j : ℕ) → j < k → get_or table j (pos 0) ≡ get_or old j (pos 0) +ℤ r
   pub left : (j : ℕ) → k ≤ j → get_or table j (pos 0) ≡ get_or old j (pos 0)
 
-pub none_raised : (r : ℤ) (old : List ℤ) → RaisedUpTo r old 0 old
-none_raised r old = record { long = refl; raised = λ j l. absurd (omega arith); left = λ j l. refl }
-
 pub one_more_raised : (r : ℤ) (old : List ℤ) (k : ℕ) (table : List ℤ) (x : ℤ) → k < length old → RaisedUpTo r old k table → x ≡ get_or old k (pos 0) +ℤ r → RaisedUpTo r old (k + 1) (set table k x)
 one_more_raised r old k table x inside so e = record {
   long = length-set table k x ∙ so.long;

@@ -30,7 +30,7 @@ pub struct Path {
 fn lift(sum: i16) -> u64
     ensures { (result ≡ lifted sum) × (result < 65536) }
 {
-    (sum as i32 + 32768) as u64
+    (i32::from(sum) + 32768) as u64
 }
 
 impl Path {

@@ -76,7 +76,7 @@ fn multiple(ms: &[u64], f: u64) -> u64
 {
     let mut r: u64 = 0;
     for k in 0..6 {
-        r = r ^ pick(ms[k], f >> k);
+        r ^= pick(ms[k], f >> k);
     }
     r
 }
@@ -98,7 +98,7 @@ fn register_step(w: Words, low: &[u64], middle: &[u64], high: &[u64], u: u8) -> 
     requires { Full w × SixWords low.now × SixWords middle.now × SixWords high.now }
     ensures { (number_of result ≡ add (number_of w / 2 ^ 6) (multiple_of low.now middle.now high.now (add u (number_of w % 2 ^ 6)))) × Full result }
 {
-    let f = (u as u64) ^ (w.low % 64);
+    let f = u64::from(u) ^ (w.low % 64);
     let s = shifted(w);
     Words {
         low: s.low ^ multiple(low, f),

@@ -42,6 +42,6 @@ pub fn add_multiple(a: &mut [u8], b: &[u8], from: usize, n: usize, f: u8)
     ensures { Entries n (λ (i : ℕ). add (symbol a.old i) (mul 6 67 f (symbol b.now (from + i)))) a.new }
 {
     for i in 0..n {
-        a[i] = a[i] ^ field::product(f, b[from + i]);
+        a[i] ^= field::product(f, b[from + i]);
     }
 }
