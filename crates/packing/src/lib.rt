@@ -31,12 +31,17 @@ pub fn pack(symbols: [u8; 4]) -> [u8; 3]
     ]
 }
 
-// A column as its four written bytes.
+// A column as its four written bytes: by shifts and masks, the form that 01 names.
 pub fn column_bytes(column: u64) -> [u8; 4]
     requires { column < 2 ^ 30 }
     ensures { result ≡ column_bytes column }
 {
-    ((column << 2) as u32).to_be_bytes()
+    [
+        (column >> 22) as u8,
+        ((column >> 14) & 255) as u8,
+        ((column >> 6) & 255) as u8,
+        ((column & 63) << 2) as u8,
+    ]
 }
 
 // A signed number as 16 bits, two's complement.
