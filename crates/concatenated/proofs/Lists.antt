@@ -40,6 +40,12 @@ pub all_of_each : {A : Type 0} (P : A → Type 0) → ((x : A) → P x) → (xs 
 all_of_each P h [] = tt
 all_of_each P h (x ∷ xs) = (h x, all_of_each P h xs)
 
+pub pairs_length : {A B : Type 0} (P : A → B → Type 0) (xs : List A) (ys : List B) → Pairs P xs ys → length ys ≡ length xs
+pairs_length P [] [] h = refl
+pairs_length P [] (y ∷ ys) h = absurd h
+pairs_length P (x ∷ xs) [] h = absurd h
+pairs_length P (x ∷ xs) (y ∷ ys) h = ap suc (pairs_length P xs ys h.1)
+
 pub map_append : {A B : Type 0} (f : A → B) (xs ys : List A) → map f (xs ++ ys) ≡ map f xs ++ map f ys
 map_append f [] ys = refl
 map_append f (x ∷ xs) ys = ap (λ (t : List _). f x ∷ t) (map_append f xs ys)

@@ -58,7 +58,7 @@ impl Levels {
 }
 
 // The rest of a level whose columns are read: the row is decoded, and its level words taken off. None: no word is in reach.
-fn settle_level(
+pub fn settle_level(
     work: &mut [[u8; 30]; 63],
     level: usize,
     symbols: &[u8; 63],

@@ -1,3 +1,4 @@
+pub mod Appended
 pub mod Decimal
 pub mod Hex
 pub mod Lengths

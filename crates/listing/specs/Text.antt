@@ -1,5 +1,5 @@
 -- 01: "The station's interface", text as the bytes of its ASCII characters: words, decimal numbers, "lower-case hexadecimal". Assumes nothing.
-use Rattle.std.specs.Prelude.{cond, List, [], ◌∷◌, ◌++◌, ℕ, zero, suc, ◌/◌, ◌%◌, ◌≤◌, eqb, ltb, length, take}
+use Rattle.std.specs.Prelude.{cond, List, [], ◌∷◌, ◌++◌, ◌≡◌, ℕ, zero, suc, ◌+◌, ◌/◌, ◌%◌, ◌≤◌, eqb, ltb, length, take}
 use Prim.Native.Char.{code}
 use Prim.Native.String.{String}
 use Rattle.std.specs.Prelude.{Option}
@@ -32,6 +32,12 @@ hex_mark mark = last_digits 16 16 mark
 unfoldable pub line_length : List ℕ → ℕ
 line_length [] = 0
 line_length (x ∷ xs) = cond (eqb x 10) 1 (suc (line_length xs))
+
+-- For the code's contracts: in a buffer a text was put behind the first `at` bytes, of at most `most` bytes; it ends at r
+pub record Appended (at : ℕ) (text : List ℕ) (most : ℕ) (old : List ℕ) (r : ℕ) (new : List ℕ) : Type 0 where
+  pub bytes : take r new ≡ take at old ++ text
+  pub reach : r ≤ at + most
+  pub size : length new ≡ length old
 
 -- For the code's contracts: what a writer holds, where that is known, grew by a beginning of the text
 abbrev pub AppendsBeginning : Option (List ℕ) → Option (List ℕ) → List ℕ → Type 0

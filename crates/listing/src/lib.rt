@@ -1,12 +1,15 @@
 // Lines of text in fixed memory: decimal and hexadecimal numbers, the lines of a page's listing (01, "The station's interface"; 02, point 6) and of a census (02, point 14); and their writing.
 #![tactic(auto)]
 
+pub mod lent;
+
 ghost use Rattle.std.specs.Prelude.{◌≡◌, ◌++◌, ◌+◌, ◌≤◌, ◌<◌, ℕ, List, [], length, take, OnOk, OnErr};
 ghost use Rattle.std.specs.Io.KnownBytes.{Appends};
 ghost use Rattle.io.specs.Digits.{hex_digit_ascii};
 ghost use Rattle.listing.specs.Text.{decimal, hex_of, hex_mark, line_length, AppendsBeginning};
 ghost use Rattle.listing.specs.Lines.{ok_line, columns_text, level_line, level_lines, data_line, refused_line, census_line};
 
+pub use lent::{append_census, append_data, append_levels, append_ok, append_refused};
 use std::io::{Error, ErrorKind, Write};
 use std::marker::Model;
 

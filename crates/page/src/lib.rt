@@ -84,7 +84,7 @@ pub fn encode_page(data: &[u8], out: &mut [u8])
 }
 
 // What the levels of a page leave, told as its outcome: the report, and the corrected symbols, row after row; they are written only if there is an answer.
-fn told(
+pub fn told(
     outcome: Result<Totals, Refusal>,
     held: &Levels,
     symbols: &mut [u8],

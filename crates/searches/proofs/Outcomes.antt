@@ -1,10 +1,10 @@
 -- A search's outcome as its answer. Assumes nothing.
 use mathlib.Core.List.{List}
-use mathlib.Core.Path.{◌≡◌, ap, ap₂}
+use mathlib.Core.Path.{◌≡◌, ap, ap₂, ◌∙◌, sym}
 use Prim.Native.Nat.{ℕ, ◌≤◌, ◌<◌}
 use native.Mathlib.Omega.{arith}
 use lib.ListN.{get_or}
-use Rattle.std.specs.Prelude.{Option}
+use Rattle.std.specs.Prelude.{Option, Some, ℤ}
 use Rattle.paths.specs.Search.{SearchResult, answer, spent}
 use Rattle.column.specs.Shape.{short}
 use Rattle.trellis.specs.Values.{level_values}
@@ -17,8 +17,12 @@ use Rattle.list_of_two.specs.declared.Way.{Way}
 use Rattle.list_of_two.specs.Ways.{choice_of}
 use Rattle.questions.specs.Questions.{first_above}
 use Rattle.questions.specs.Answer.{number, place}
-use Rattle.searches.specs.Searches.{SearchAnswer, word, count, low, Answered, outcome_answer, as_answer}
+use Rattle.searches.specs.Searches.{SearchAnswer, found, word, count, low, Answered, outcome_answer, as_answer}
 use Rattle.questions.proofs.FirstAbove.{below_first}
+
+-- a word that was found is its answer
+pub found_answer : {outcome : Option Found} (w c : ℕ) (z y : ℤ) → outcome ≡ Some (record { word = w; count = c; low = z }) → y ≡ z → found w c y ≡ as_answer outcome
+found_answer w c z y e same = ap (found w c) same ∙ ap as_answer (sym e)
 
 -- the outcome that the code has of a search is its answer
 pub answered_as : (o : SearchResult WordFound) {found : Option Found} → found ≡ code_outcome o → as_answer found ≡ outcome_answer o
